@@ -1,0 +1,17 @@
+use mathlib.Core.Path.{refl}
+use Prim.Native.Nat.{ℕ}
+use native.Mathlib.Omega.{arith}
+use Rattle.field.specs.Numbers.{NumberOf}
+use Rattle.field.proofs.Values.{same-value, same-told}
+use Rattle.bytes.specs.Bytes.{above-one}
+use Rattle.bytes.specs.declared.Byte.{Byte}
+use Rattle.bytes.proofs.ByteSums.same.Needs as need
+
+abbrev Holds : Byte → Type 0
+Holds b = NumberOf 256 (λ (s : Byte). s .0) (λ (n : ℕ). record { 0 = n }) b (b .0)
+
+pub returns : need.returns
+returns c =
+    let a : Holds (c .args .self) = record { is = refl; below = omega arith; back = refl } in
+    let b : Holds (c .args .other) = record { is = refl; below = omega arith; back = refl } in
+    record { yes = same-value 256 above-one a b; found = same-told 256 above-one a b }

@@ -1,0 +1,12 @@
+pub mod Cuts
+pub mod Digits
+pub mod Eigens
+pub mod Files
+pub mod Halves
+pub mod Images
+pub mod Matrices
+pub mod Operators
+pub mod Pairing
+pub mod Seats
+pub mod Sums
+pub mod Theory

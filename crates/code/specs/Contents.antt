@@ -1,0 +1,14 @@
+-- What the slices of a program hold, as columns, files and halves. Assumes nothing.
+use mathlib.Core.List.{List, map}
+use Prim.Native.Nat.{ℕ, _+_, _-_, _*_}
+use lib.ListN.{getD}
+use Rattle.field.specs.Symbols.{Symbols}
+
+module _ (Y : Symbols) {S : Type 0} (value : S → Y .Symbol) where
+  -- the symbol in each place
+  abbrev pub at : List S → ℕ → Y .Symbol
+  at xs a = getD (map value xs) a (Y .ring .zero)
+
+  -- part after part of n symbols: the symbol in place a of part b
+  abbrev pub parts : ℕ → List S → ℕ → ℕ → Y .Symbol
+  parts n xs b a = at xs (b * n + a)

@@ -1,0 +1,5 @@
+pub mod Blocks
+pub mod Codes
+pub mod Contents
+pub mod Recovery
+pub mod Rows

@@ -1,0 +1,90 @@
+// The two parity columns of a file.
+ghost use lib.ListN.{length};
+ghost use mathlib.Core.List.{[], _∷_};
+ghost use mathlib.Core.Path.{_≡_};
+ghost use Prim.Native.Nat.{ℕ, _+_, _-_, _*_, _^_, _<_, _≤_};
+ghost use Rattle.code.specs.Codes.{full, parity1, parity2};
+ghost use Rattle.code.specs.Contents.{at, parts};
+ghost use Rattle.refusal.specs.Refusals.{earliest as soonest, few-marks, refusal, wrong-lengths, wrong-size};
+ghost use Rattle.std.specs.declared.result.Result.the-variants.{Err, Ok};
+use crate::boxes::KINDS;
+use crate::column::add_pairs;
+use crate::column::add_rows;
+use crate::column::clear;
+use crate::rows::power;
+use field::Sums;
+use refusal::Refusal;
+use refusal::earliest;
+use refusal::few_marks;
+use refusal::sized;
+use refusal::wrong_lengths;
+
+// Adds every data column into the first parity and its image into the second.
+fn add_columns<F: Sums>(m: usize, file: &[F], first: &mut [F], second: &mut [F])
+    requires some { ⌜ 1 ≤ m ⌝ }
+    requires size { ⌜ m ≤ 6 ⌝ }
+    requires marks { ⌜ 2 * m ≤ symbols .marks ⌝ }
+    requires whole { ⌜ length (now file) ≡ 3 * m * 2 ^ m ⌝ }
+    requires sums { ⌜ length (now first) ≡ 2 ^ m ⌝ }
+    requires images { ⌜ length (now second) ≡ 2 ^ m ⌝ }
+    requires no_sums { ⌜ ((a : ℕ) → a < 2 ^ m → at symbols value (now first) a ≡ symbols .ring .zero) ⌝ }
+    requires no_images { ⌜ ((a : ℕ) → a < 2 ^ m → at symbols value (now second) a ≡ symbols .ring .zero) ⌝ }
+    ensures first { λ _. ⌜ ((a : ℕ) → a < 2 ^ m → at symbols value (now (first .exit)) a ≡ parity1 (full symbols m) (parts symbols value (2 ^ m) (now (file .entry))) a) ⌝ }
+    ensures second { λ _. ⌜ ((a : ℕ) → a < 2 ^ m → at symbols value (now (second .exit)) a ≡ parity2 (full symbols m) (parts symbols value (2 ^ m) (now (file .entry))) a) ⌝ }
+{
+    let rows = power(m);
+    for b in 0..KINDS * m {
+        let column = &file[b * rows..b * rows + rows];
+        add_rows(first, column);
+        add_pairs(m, b, second, column);
+    }
+}
+
+fn write_parities<F: Sums>(m: usize, file: &[F], first: &mut [F], second: &mut [F])
+    requires some { ⌜ 1 ≤ m ⌝ }
+    requires size { ⌜ m ≤ 6 ⌝ }
+    requires marks { ⌜ 2 * m ≤ symbols .marks ⌝ }
+    requires whole { ⌜ length (now file) ≡ 3 * m * 2 ^ m ⌝ }
+    requires sums { ⌜ length (now first) ≡ 2 ^ m ⌝ }
+    requires images { ⌜ length (now second) ≡ 2 ^ m ⌝ }
+    ensures first { λ _. ⌜ ((a : ℕ) → a < 2 ^ m → at symbols value (now (first .exit)) a ≡ parity1 (full symbols m) (parts symbols value (2 ^ m) (now (file .entry))) a) ⌝ }
+    ensures second { λ _. ⌜ ((a : ℕ) → a < 2 ^ m → at symbols value (now (second .exit)) a ≡ parity2 (full symbols m) (parts symbols value (2 ^ m) (now (file .entry))) a) ⌝ }
+{
+    clear(first);
+    clear(second);
+    add_columns(m, file, first, second);
+}
+
+// Writes both parity columns of a file of 3m columns: the sum of the columns
+// and the sum of their images. Refused, with nothing written, by a size, too
+// few marks or a length that does not fit.
+pub fn parities<F: Sums>(
+    m: usize,
+    file: &[F],
+    first: &mut [F],
+    second: &mut [F],
+) -> Result<(), Refusal>
+    ensures answer { λ r. ⌜ refusal r ≡ soonest (wrong-size m ∷ few-marks symbols m ∷ wrong-lengths ((length (now (file .entry)), 3 * m * 2 ^ m) ∷ (length (now (first .entry)), 2 ^ m) ∷ (length (now (second .entry)), 2 ^ m) ∷ []) ∷ []) ⌝ }
+    ensures sums { λ r. ⌜ elim r [ Ok _ ↦ ((a : ℕ) → a < 2 ^ m → at symbols value (now (first .exit)) a ≡ parity1 (full symbols m) (parts symbols value (2 ^ m) (now (file .entry))) a) | Err _ ↦ now (first .exit) ≡ now (first .entry) ] ⌝ }
+    ensures images { λ r. ⌜ elim r [ Ok _ ↦ ((a : ℕ) → a < 2 ^ m → at symbols value (now (second .exit)) a ≡ parity2 (full symbols m) (parts symbols value (2 ^ m) (now (file .entry))) a) | Err _ ↦ now (second .exit) ≡ now (second .entry) ] ⌝ }
+{
+    sized(m)?;
+    let rows = power(m);
+    earliest(
+        &[
+            (few_marks::<F>(m), Refusal::Marks),
+            (
+                wrong_lengths(
+                    &[
+                        (file.len(), KINDS * m * rows),
+                        (first.len(), rows),
+                        (second.len(), rows),
+                    ],
+                ),
+                Refusal::Length,
+            ),
+        ],
+    )?;
+    write_parities(m, file, first, second);
+    Ok(())
+}
