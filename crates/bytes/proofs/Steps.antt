@@ -59,5 +59,5 @@ squares-all n k s f r h e =
 
 -- each byte but 0 gives 1 with its inverse, by a computed test of all
 pub inverted : Inverted 256 product inverse
-unfolding product squares inverse
+unfolding product squares
 inverted = tt

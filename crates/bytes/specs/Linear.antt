@@ -21,16 +21,16 @@ xor-swap a b c d =
 xor-half : (a b : ℕ) → bitXor a b / 2 ≡ bitXor (a / 2) (b / 2)
 xor-half a b = xor-shr a b 1
 
-xor-odd : (a b : ℕ) → bitXor a b % 2 ≡ bitXor (a % 2) (b % 2)
+pub xor-odd : (a b : ℕ) → bitXor a b % 2 ≡ bitXor (a % 2) (b % 2)
 xor-odd a b = xor-mod a b 1
 
-xor-twice : (a b : ℕ) → bitXor a b * 2 ≡ bitXor (a * 2) (b * 2)
+pub xor-twice : (a b : ℕ) → bitXor a b * 2 ≡ bitXor (a * 2) (b * 2)
 xor-twice a b =
     sym
     ((λ i. bitXor (sym (add-zero (a * 2)) i) (sym (add-zero (b * 2)) i)) ∙ xor-block 1 a b 0 0 (lit< tt) (lit< tt) ∙ add-zero (bitXor a b * 2))
 
 -- ---- picks
-pick-right : (s d e : ℕ) → pick s (bitXor d e) ≡ bitXor (pick s d) (pick s e)
+pub pick-right : (s d e : ℕ) → pick s (bitXor d e) ≡ bitXor (pick s d) (pick s e)
 pick-right zero d e = refl
 pick-right (suc s) d e = refl
 
@@ -111,21 +111,21 @@ agree f g lf lg e c h =
     ap f (sym whole) ∙ spread f lf powers c ∙ ap (λ ds. picked ds c) (same-map f g powers e) ∙ sym (spread g lg powers c) ∙ ap g whole
 
 -- ---- the product's laws, by computed tests at the powers of two
-abbrev eachb : (ℕ → Bool) → List ℕ → Bool
+abbrev pub eachb : (ℕ → Bool) → List ℕ → Bool
 eachb p [] = true
 eachb p (x ∷ xs) = both (p x) (eachb p xs)
 
-told : (p : ℕ → Bool) (xs : List ℕ) → T (eachb p xs) → Each (λ x. T (p x)) xs
+pub told : (p : ℕ → Bool) (xs : List ℕ) → T (eachb p xs) → Each (λ x. T (p x)) xs
 told p [] t = tt
 told p (x ∷ xs) t = (both-left (p x) (eachb p xs) t, told p xs (both-right (p x) (eachb p xs) t))
 
-by-right : (a : ℕ) → Linear (product a)
+pub by-right : (a : ℕ) → Linear (product a)
 by-right a = product-right a
 
-by-left : (b : ℕ) → Linear (λ a. product a b)
+pub by-left : (b : ℕ) → Linear (λ a. product a b)
 by-left b x y = product-left x y b
 
-after : (f g : ℕ → ℕ) → Linear f → Linear g → Linear (λ x. f (g x))
+pub after : (f g : ℕ → ℕ) → Linear f → Linear g → Linear (λ x. f (g x))
 after f g lf lg a b = ap f (lg a b) ∙ lf (g a) (g b)
 
 abbrev turns : ℕ → ℕ → Bool

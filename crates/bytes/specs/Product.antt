@@ -30,5 +30,5 @@ squares zero s f = f
 squares (suc k) s f = let t = product s s in squares k t (product f t)
 
 -- the 254th power, as the product of the powers 2, 4, 8, .. 128: the 255th of each byte but 0 is 1
-unfoldable pub inverse : ℕ → ℕ
+abbrev pub inverse : ℕ → ℕ
 inverse a = squares 7 a 1

@@ -1,9 +1,12 @@
 // Bytes: the field of FIPS 197, section 4. Each byte is a polynomial over two
 // elements, and products are taken modulo x^8 + x^4 + x^3 + x + 1.
+ghost use lib.Dec.{eqb};
+ghost use lib.ListN.{length};
 ghost use mathlib.Core.Path.{_≡_};
 ghost use Prim.Native.Nat.{_%_};
 ghost use Rattle.bytes.specs.Bytes.{byte-symbols, byte-value};
-ghost use Rattle.bytes.specs.Product.{doublings as doubles-of, inverse as power-254, pick, product as product-of, twice as double-of};
+ghost use Rattle.bytes.specs.Polynomials.{Products};
+ghost use Rattle.bytes.specs.Product.{doublings as doubles-of, inverse as power-254, pick, product as product-of, squares as squares-of, twice as double-of};
 use field::Quotients;
 use field::Sums;
 
@@ -21,16 +24,23 @@ fn twice(a: u8) -> u8
     if a < 128 { low } else { low ^ REDUCTION }
 }
 
-// a, a times x, and so on to a times x^7.
+// Fills the buffer with a, a times x, a times x^2 and so on.
+fn list_doublings(doubles: &mut [u8], a: u8)
+    ensures { λ _. ⌜ now (doubles .exit) ≡ doubles-of (length (now (doubles .entry))) a ⌝ }
+{
+    let mut d = a;
+    for double in doubles.iter_mut() {
+        *double = d;
+        d = twice(d);
+    }
+}
+
+// Eight of them, since a factor has eight digits.
 fn doublings(a: u8) -> [u8; 8]
     ensures { λ r. ⌜ r ≡ doubles-of 8 a ⌝ }
 {
     let mut doubles = [0u8; 8];
-    let mut d = a;
-    for i in 0..8 {
-        doubles[i] = d;
-        d = twice(d);
-    }
+    list_doublings(&mut doubles, a);
     doubles
 }
 
@@ -55,18 +65,32 @@ fn times(a: u8, b: u8) -> u8
     sum
 }
 
+// The product of the powers 2, 4, 8 and so on of a, count of them.
+fn squares(a: u8, count: u32) -> u8
+    ensures { λ r. ⌜ r ≡ squares-of count a 1 ⌝ }
+{
+    let mut square = a;
+    let mut found = 1;
+    for _ in 0..count {
+        square = times(square, square);
+        found = times(found, square);
+    }
+    found
+}
+
 // The 254th power, since the 255th of each byte but 0 is 1: the product of the
 // powers 2, 4, 8, 16, 32, 64 and 128.
 fn invert(a: u8) -> u8
     ensures { λ r. ⌜ r ≡ power-254 a ⌝ }
 {
-    let mut square = a;
-    let mut found = 1;
-    for _ in 0..7u32 {
-        square = times(square, square);
-        found = times(found, square);
-    }
-    found
+    squares(a, 7)
+}
+
+// Two bytes stand for one symbol only if they are equal.
+fn equal(a: u8, b: u8) -> bool
+    ensures { λ r. ⌜ r ≡ eqb a b ⌝ }
+{
+    a == b
 }
 
 pub impl Sums for Byte as ByteSums {
@@ -98,7 +122,7 @@ pub impl Sums for Byte as ByteSums {
     }
 
     fn same(self, other: Byte) -> bool {
-        self.0 == other.0
+        equal(self.0, other.0)
     }
 
     fn number(self) -> u32 {
@@ -133,3 +157,10 @@ pub impl Quotients for Byte as ByteQuotients {
         }
     }
 }
+
+// A theorem on bytes as polynomials over two elements: the product that the
+// field is built on is the remainder of the product of the polynomials by
+// x^8 + x^4 + x^3 + x + 1.
+pub fn products_stand()
+    ensures { λ _. ⌜ Products ⌝ }
+{}

@@ -3,6 +3,7 @@ ghost use mathlib.Core.Path.{_≡_};
 ghost use Prim.Native.Nat.{ℕ, _+_, _-_, _*_, _/_, _%_, _<_, _≤_};
 ghost use Rattle.code.specs.Blocks.{kind-of};
 ghost use Rattle.code.specs.Codes.{eigen-p, eigen-q, full, kind as kinded, shift as shifted};
+ghost use Rattle.columns.specs.Sizes.{Sized};
 use code::Kind;
 use field::Sums;
 
@@ -53,9 +54,7 @@ pub(crate) fn mark<F: Sums>(j: usize) -> F
 
 // The data box in place b, from 0.
 pub(crate) fn data_box<F: Sums>(m: usize, b: usize) -> DataBox<F>
-    requires some { ⌜ 1 ≤ m ⌝ }
-    requires size { ⌜ m ≤ 6 ⌝ }
-    requires marks { ⌜ 2 * m ≤ symbols .marks ⌝ }
+    requires sized { ⌜ Sized symbols m ⌝ }
     ensures kind { λ r. ⌜ r .kind ≡ kinded (full symbols m) b ⌝ }
     ensures shift { λ r. ⌜ r .shift ≡ shifted (full symbols m) b ⌝ }
     ensures first { λ r. ⌜ value (r .p) ≡ eigen-p (full symbols m) b ⌝ }

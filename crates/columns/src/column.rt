@@ -8,6 +8,7 @@ ghost use Rattle.code.specs.Codes.{full, half-for, image};
 ghost use Rattle.code.specs.Contents.{at};
 ghost use Rattle.refusal.specs.Refusals.{earliest as first, few-marks, no-box, parity-box, refusal, wrong-lengths, wrong-size};
 ghost use Rattle.std.specs.declared.result.Result.the-variants.{Err, Ok};
+ghost use Rattle.columns.specs.Sizes.{Sized};
 use crate::boxes::KINDS;
 use crate::boxes::data_box;
 use crate::boxes::kind_at;
@@ -56,9 +57,7 @@ pub(crate) fn half_of_pair<F: Sums>(kind: Kind, s: F, t: F) -> F
 
 // Adds the image of the column of the data box in place b, pair by pair.
 pub(crate) fn add_pairs<F: Sums>(m: usize, b: usize, sum: &mut [F], column: &[F])
-    requires some { ⌜ 1 ≤ m ⌝ }
-    requires size { ⌜ m ≤ 6 ⌝ }
-    requires marks { ⌜ 2 * m ≤ symbols .marks ⌝ }
+    requires sized { ⌜ Sized symbols m ⌝ }
     requires sums { ⌜ length (now sum) ≡ 2 ^ m ⌝ }
     requires rows { ⌜ length (now column) ≡ 2 ^ m ⌝ }
     ensures { λ _. ⌜ ((a : ℕ) → a < 2 ^ m → at symbols value (now (sum .exit)) a ≡ symbols .ring .plus (at symbols value (now (sum .entry)) a) (image (full symbols m) b (at symbols value (now (column .entry))) a)) ⌝ }

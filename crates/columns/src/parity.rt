@@ -7,6 +7,7 @@ ghost use Rattle.code.specs.Codes.{full, parity1, parity2};
 ghost use Rattle.code.specs.Contents.{at, parts};
 ghost use Rattle.refusal.specs.Refusals.{earliest as soonest, few-marks, refusal, wrong-lengths, wrong-size};
 ghost use Rattle.std.specs.declared.result.Result.the-variants.{Err, Ok};
+ghost use Rattle.columns.specs.Sizes.{Sized};
 use crate::boxes::KINDS;
 use crate::column::add_pairs;
 use crate::column::add_rows;
@@ -21,9 +22,7 @@ use refusal::wrong_lengths;
 
 // Adds every data column into the first parity and its image into the second.
 fn add_columns<F: Sums>(m: usize, file: &[F], first: &mut [F], second: &mut [F])
-    requires some { ⌜ 1 ≤ m ⌝ }
-    requires size { ⌜ m ≤ 6 ⌝ }
-    requires marks { ⌜ 2 * m ≤ symbols .marks ⌝ }
+    requires sized { ⌜ Sized symbols m ⌝ }
     requires whole { ⌜ length (now file) ≡ 3 * m * 2 ^ m ⌝ }
     requires sums { ⌜ length (now first) ≡ 2 ^ m ⌝ }
     requires images { ⌜ length (now second) ≡ 2 ^ m ⌝ }
@@ -41,9 +40,7 @@ fn add_columns<F: Sums>(m: usize, file: &[F], first: &mut [F], second: &mut [F])
 }
 
 fn write_parities<F: Sums>(m: usize, file: &[F], first: &mut [F], second: &mut [F])
-    requires some { ⌜ 1 ≤ m ⌝ }
-    requires size { ⌜ m ≤ 6 ⌝ }
-    requires marks { ⌜ 2 * m ≤ symbols .marks ⌝ }
+    requires sized { ⌜ Sized symbols m ⌝ }
     requires whole { ⌜ length (now file) ≡ 3 * m * 2 ^ m ⌝ }
     requires sums { ⌜ length (now first) ≡ 2 ^ m ⌝ }
     requires images { ⌜ length (now second) ≡ 2 ^ m ⌝ }

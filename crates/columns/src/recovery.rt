@@ -12,6 +12,7 @@ ghost use Rattle.code.specs.Recovery.{eigenvalue as eigen, half-image, lost-hal
 ghost use Rattle.refusal.specs.Refusals.{earliest as first, few-marks, no-box, parity-box, refusal, wrong-lengths, wrong-size};
 ghost use Rattle.code.specs.Rows.{digit, lower, odd, pair-of};
 ghost use Rattle.std.specs.declared.result.Result.the-variants.{Err, Ok};
+ghost use Rattle.columns.specs.Sizes.{Sized};
 use crate::boxes::DataBox;
 use crate::boxes::KINDS;
 use crate::boxes::data_box;
@@ -61,9 +62,7 @@ fn block_at<F: Sums>(kind: Kind, p: F, q: F, s: F, t: F, upper: bool) -> F
 // A helper of another direction: its blocks act on the half as on a column,
 // since the half has a number for each row with digit 0 in the lost direction.
 fn image_across<F: Sums>(m: usize, x: usize, b: usize, half: &[F], j: usize) -> F
-    requires some { ⌜ 1 ≤ m ⌝ }
-    requires size { ⌜ m ≤ 6 ⌝ }
-    requires marks { ⌜ 2 * m ≤ symbols .marks ⌝ }
+    requires sized { ⌜ Sized symbols m ⌝ }
     requires pairs { ⌜ length (now half) ≡ 2 ^ (m - 1) ⌝ }
     requires pair { ⌜ j < 2 ^ (m - 1) ⌝ }
     ensures { λ r. ⌜ value r ≡ image (full symbols m) b (λ a. at symbols value (now (half .entry)) (pair-of (m - (x % m + 1)) a)) (lower (m - (x % m + 1)) j) ⌝ }
@@ -84,9 +83,7 @@ fn image_across<F: Sums>(m: usize, x: usize, b: usize, half: &[F], j: usize) -> 
 
 // The half of the image of box b's column, from the half of the column.
 fn half_of_image<F: Sums>(m: usize, x: usize, b: usize, half: &[F], j: usize) -> F
-    requires some { ⌜ 1 ≤ m ⌝ }
-    requires size { ⌜ m ≤ 6 ⌝ }
-    requires marks { ⌜ 2 * m ≤ symbols .marks ⌝ }
+    requires sized { ⌜ Sized symbols m ⌝ }
     requires pairs { ⌜ length (now half) ≡ 2 ^ (m - 1) ⌝ }
     requires pair { ⌜ j < 2 ^ (m - 1) ⌝ }
     ensures { λ r. ⌜ value r ≡ half-image (full symbols m) x b (at symbols value (now (half .entry))) j ⌝ }
@@ -109,9 +106,7 @@ fn subtract_half<F: Sums>(
     j: usize,
     left: (F, F),
 ) -> (F, F)
-    requires some { ⌜ 1 ≤ m ⌝ }
-    requires size { ⌜ m ≤ 6 ⌝ }
-    requires marks { ⌜ 2 * m ≤ symbols .marks ⌝ }
+    requires sized { ⌜ Sized symbols m ⌝ }
     requires pairs { ⌜ length (now half) ≡ 2 ^ (m - 1) ⌝ }
     requires pair { ⌜ j < 2 ^ (m - 1) ⌝ }
     ensures first { λ r. ⌜ value (r .0) ≡ _∸_ (symbols .ring) (value (left .0)) (at symbols value (now (half .entry)) j) ⌝ }
@@ -138,9 +133,7 @@ fn subtract_box<F: Sums>(
     j: usize,
     left: (F, F),
 ) -> (F, F)
-    requires some { ⌜ 1 ≤ m ⌝ }
-    requires size { ⌜ m ≤ 6 ⌝ }
-    requires marks { ⌜ 2 * m ≤ symbols .marks ⌝ }
+    requires sized { ⌜ Sized symbols m ⌝ }
     requires lost { ⌜ x < 3 * m ⌝ }
     requires helper { ⌜ b < 3 * m ⌝ }
     requires all { ⌜ length (now halves) ≡ (3 * m + 1) * 2 ^ (m - 1) ⌝ }
@@ -159,9 +152,7 @@ fn subtract_box<F: Sums>(
 // The halves, at pair j, of the lost column and of its image: those of the
 // parities less those of the other data boxes.
 fn lost_halves<F: Sums>(m: usize, x: usize, halves: &[F], j: usize) -> (F, F)
-    requires some { ⌜ 1 ≤ m ⌝ }
-    requires size { ⌜ m ≤ 6 ⌝ }
-    requires marks { ⌜ 2 * m ≤ symbols .marks ⌝ }
+    requires sized { ⌜ Sized symbols m ⌝ }
     requires lost { ⌜ x < 3 * m ⌝ }
     requires all { ⌜ length (now halves) ≡ (3 * m + 1) * 2 ^ (m - 1) ⌝ }
     requires pair { ⌜ j < 2 ^ (m - 1) ⌝ }
@@ -195,9 +186,7 @@ fn recover<F: Sums>(kind: Kind, p: F, q: F, d: F, g: F, h: F) -> (F, F)
 
 // Writes the lost column pair by pair; d is the inverse of the difference of the lost direction's eigenvalues.
 fn write_pairs<F: Sums>(m: usize, x: usize, d: F, halves: &[F], column: &mut [F])
-    requires some { ⌜ 1 ≤ m ⌝ }
-    requires size { ⌜ m ≤ 6 ⌝ }
-    requires marks { ⌜ 2 * m ≤ symbols .marks ⌝ }
+    requires sized { ⌜ Sized symbols m ⌝ }
     requires lost { ⌜ x < 3 * m ⌝ }
     requires all { ⌜ length (now halves) ≡ (3 * m + 1) * 2 ^ (m - 1) ⌝ }
     requires rows { ⌜ length (now column) ≡ 2 ^ m ⌝ }
@@ -213,18 +202,22 @@ fn write_pairs<F: Sums>(m: usize, x: usize, d: F, halves: &[F], column: &mut [F]
     }
 }
 
+// The difference of a direction's two eigenvalues, q - p.
+fn gap<F: Sums>(owner: DataBox<F>) -> F
+    ensures { λ r. ⌜ value r ≡ _∸_ (symbols .ring) (value (owner .q)) (value (owner .p)) ⌝ }
+{
+    owner.q.sum(owner.p.negative())
+}
+
 // Writes the column given by the halves.
 pub(crate) fn restore_column<F: Quotients>(m: usize, x: usize, halves: &[F], column: &mut [F])
-    requires some { ⌜ 1 ≤ m ⌝ }
-    requires size { ⌜ m ≤ 6 ⌝ }
-    requires marks { ⌜ 2 * m ≤ F·Sums .symbols .marks ⌝ }
+    requires sized { ⌜ Sized (F·Sums .symbols) m ⌝ }
     requires lost { ⌜ x < 3 * m ⌝ }
     requires all { ⌜ length (now halves) ≡ (3 * m + 1) * 2 ^ (m - 1) ⌝ }
     requires rows { ⌜ length (now column) ≡ 2 ^ m ⌝ }
     ensures { λ _. ⌜ Given (full (F·Sums .symbols) m) x (parts (F·Sums .symbols) (F·Sums .value) (2 ^ (m - 1)) (now (halves .entry))) (at (F·Sums .symbols) (F·Sums .value) (now (column .exit))) ⌝ }
 {
-    let lost = data_box::<F>(m, x);
-    match lost.q.sum(lost.p.negative()).inverse() {
+    match gap(data_box::<F>(m, x)).inverse() {
         Some(d) => write_pairs(m, x, d, halves, column),
         // Not reached: the marks are distinct.
         None => {}

@@ -1,4 +1,5 @@
 // Four: exclusive or as the sum, and a table of products.
+ghost use lib.Bits.{bitXor};
 ghost use mathlib.Core.Path.{_≡_};
 ghost use Prim.Native.Nat.{_<_};
 ghost use Rattle.field.specs.Numbers.{NumberOf};
@@ -45,6 +46,13 @@ fn to_number(s: Four) -> u8
     }
 }
 
+// Two digits to a number, and each digit is added on its own.
+fn add(a: u8, b: u8) -> u8
+    ensures { λ r. ⌜ r ≡ bitXor a b ⌝ }
+{
+    a ^ b
+}
+
 fn multiply(a: u8, b: u8) -> u8
     requires { ⌜ a < 4 ⌝ ∗ ⌜ b < 4 ⌝ }
     ensures { λ r. ⌜ r ≡ tabled a b ⌝ ∗ ⌜ r < 4 ⌝ }
@@ -75,7 +83,7 @@ pub impl Sums for Four as FourSums {
     }
 
     fn sum(self, other: Four) -> Four {
-        from_number(to_number(self) ^ to_number(other))
+        from_number(add(to_number(self), to_number(other)))
     }
 
     // Each symbol gives zero with itself.

@@ -71,10 +71,8 @@ impl fmt::Display for Line<'_> as LineDisplay {
 
 fn file() -> [Byte; 24] {
     let mut file = [Byte(0); 24];
-    for (i, level) in LEVELS.iter().enumerate() {
-        if i < 24 {
-            file[i] = Byte(*level);
-        }
+    for i in 0..24 {
+        file[i] = Byte(LEVELS[i]);
     }
     file
 }
@@ -105,7 +103,7 @@ fn columns(file: &[Byte; 24]) -> Result<[Byte; 32], AnyError> {
 // The halves of all boxes but the lost one, in rising order, and how many numbers they are.
 fn halves(columns: &[Byte; 32]) -> Result<([Byte; 14], usize), AnyError> {
     let mut halves = [Byte(0); 14];
-    let mut taken = 0;
+    let mut taken: usize = 0;
     for h in 0..BOXES - 1 {
         let b = if h + 1 < LOST { h } else { h + 1 };
         let mut numbers = [Byte(0); 2];
@@ -117,13 +115,16 @@ fn halves(columns: &[Byte; 32]) -> Result<([Byte; 14], usize), AnyError> {
         ))?;
         halves[2 * h] = numbers[0];
         halves[2 * h + 1] = numbers[1];
-        taken = 2 * h + 2;
+        taken = numbers.len().saturating_add(taken);
     }
     Ok((halves, taken))
 }
 
 fn print_columns(rt: &impl Print, columns: &[Byte; 32]) -> Result<(), AnyError> {
-    rt.println("A cabinet of 6 data boxes and 2 parity boxes, 4 symbols in each:")?;
+    println!(
+        rt,
+        "A cabinet of {DATA_BOXES} data boxes and 2 parity boxes, {ROWS} symbols in each:"
+    )?;
     for b in 0..BOXES {
         rt.println(Line {
             number: b + 1,

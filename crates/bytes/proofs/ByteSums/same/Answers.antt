@@ -1,6 +1,7 @@
-use mathlib.Core.Path.{refl}
+use mathlib.Core.Path.{refl, sym, subst}
 use Prim.Native.Nat.{ℕ}
 use native.Mathlib.Omega.{arith}
+use lib.Dec.{T}
 use Rattle.field.specs.Numbers.{NumberOf}
 use Rattle.field.proofs.Values.{same-value, same-told}
 use Rattle.bytes.specs.Bytes.{above-one}
@@ -14,4 +15,5 @@ pub returns : need.returns
 returns c =
     let a : Holds (c .args .self) = record { is = refl; below = omega arith; back = refl } in
     let b : Holds (c .args .other) = record { is = refl; below = omega arith; back = refl } in
-    record { yes = same-value 256 above-one a b; found = same-told 256 above-one a b }
+    let e = c .equal .ensures in
+    record { yes = λ t. same-value 256 above-one a b (subst T e t); found = λ v. subst T (sym e) (same-told 256 above-one a b v) }

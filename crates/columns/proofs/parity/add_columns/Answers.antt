@@ -38,7 +38,7 @@ loop-b-again g c =
           c .add-rows .ensures a (omega arith) ∙ ap₂ (Y .ring .plus) (c .loop-b .inv .0 a l) (column a l) ∙ sym (sum-more (Y .ring) b (λ b. parts Y v (2 ^ m) file b a)),
       λ a l.
           c .add-pairs .ensures a l
-          ∙ ap₂ (Y .ring .plus) (c .loop-b .inv .1 a l) (image-same (full Y m) b _ (parts Y v (2 ^ m) file b) (shift-less m b (c .pre .some)) column a l)
+          ∙ ap₂ (Y .ring .plus) (c .loop-b .inv .1 a l) (image-same (full Y m) b _ (parts Y v (2 ^ m) file b) (shift-less m b (c .pre .sized .some)) column a l)
           ∙ sym (sum-more (Y .ring) b (λ b. image (full Y m) b (parts Y v (2 ^ m) file b) a)),
     )
 

@@ -57,5 +57,5 @@ returns g c =
     let half = part Y v (c .args .halves .now) (2 ^ (m - 1)) (seat x b) start (start + pairs - start) (ap₂ _*_ (c .seat .ensures) (c .power-pairs .ensures .value)) (omega arith) in
     record {
       first = c .subtract-half .ensures .first ∙ ap (_∸_ R _) (half (c .args .j) (c .pre .pair) ∙ sym (cond-false (eqb b x) (R .zero) _ apart));
-      second = c .subtract-half .ensures .second ∙ ap (_∸_ R _) (half-image-same (full Y m) x b _ (parts Y v (2 ^ (m - 1)) (c .args .halves .now) (seat x b)) (shift-less m x (c .pre .some)) (shift-less m b (c .pre .some)) half (c .args .j) (c .pre .pair) ∙ sym (cond-false (eqb b x) (R .zero) _ apart));
+      second = c .subtract-half .ensures .second ∙ ap (_∸_ R _) (half-image-same (full Y m) x b _ (parts Y v (2 ^ (m - 1)) (c .args .halves .now) (seat x b)) (shift-less m x (c .pre .sized .some)) (shift-less m b (c .pre .sized .some)) half (c .args .j) (c .pre .pair) ∙ sym (cond-false (eqb b x) (R .zero) _ apart));
     }

@@ -47,5 +47,5 @@ returns g c =
     λ a l.
     let m = c .args .m in
     let k = shift (full (g .F·Sums .symbols) m) (c .args .x) in
-    let below : pair-of k a < 2 ^ (m - 1) = pair-below m k a (shift-less m (c .args .x) (c .pre .some)) l in
+    let below : pair-of k a < 2 ^ (m - 1) = pair-below m k a (shift-less m (c .args .x) (c .pre .sized .some)) l in
     c .loop-j .inv .done a (omega arith) (omega arith)
