@@ -5,7 +5,7 @@ ghost use mathlib.Core.Path.{_≡_};
 ghost use Prim.Native.Nat.{ℕ, _+_, _-_, _*_, _^_, _<_, _≤_};
 ghost use Rattle.code.specs.Blocks.{half as halved};
 ghost use Rattle.code.specs.Codes.{full, half-for, image};
-ghost use Rattle.code.specs.Contents.{at};
+ghost use Rattle.code.specs.Contents.{Holds, added, at};
 ghost use Rattle.refusal.specs.Refusals.{earliest as first, few-marks, no-box, parity-box, refusal, wrong-lengths, wrong-size};
 ghost use Rattle.std.specs.declared.result.Result.the-variants.{Err, Ok};
 ghost use Rattle.columns.specs.Sizes.{Sized};
@@ -27,7 +27,7 @@ use refusal::wrong_lengths;
 
 // Makes every symbol of a column zero.
 pub(crate) fn clear<F: Sums>(column: &mut [F])
-    ensures { λ _. ⌜ ((a : ℕ) → a < length (now (column .entry)) → at symbols value (now (column .exit)) a ≡ symbols .ring .zero) ⌝ }
+    ensures { λ _. ⌜ Holds symbols value (length (now (column .entry))) (now (column .exit)) (λ _. symbols .ring .zero) ⌝ }
 {
     for a in 0..column.len() {
         column[a] = F::zero();
@@ -37,7 +37,7 @@ pub(crate) fn clear<F: Sums>(column: &mut [F])
 // Adds a column into another of the same length, row by row.
 pub(crate) fn add_rows<F: Sums>(sum: &mut [F], column: &[F])
     requires { ⌜ length (now sum) ≡ length (now column) ⌝ }
-    ensures { λ _. ⌜ ((a : ℕ) → a < length (now (sum .entry)) → at symbols value (now (sum .exit)) a ≡ symbols .ring .plus (at symbols value (now (sum .entry)) a) (at symbols value (now (column .entry)) a)) ⌝ }
+    ensures { λ _. ⌜ Holds symbols value (length (now (sum .entry))) (now (sum .exit)) (added symbols (at symbols value (now (sum .entry))) (at symbols value (now (column .entry)))) ⌝ }
 {
     for a in 0..column.len() {
         sum[a] = sum[a].sum(column[a]);
@@ -60,7 +60,7 @@ pub(crate) fn add_pairs<F: Sums>(m: usize, b: usize, sum: &mut [F], column: &[F]
     requires sized { ⌜ Sized symbols m ⌝ }
     requires sums { ⌜ length (now sum) ≡ 2 ^ m ⌝ }
     requires rows { ⌜ length (now column) ≡ 2 ^ m ⌝ }
-    ensures { λ _. ⌜ ((a : ℕ) → a < 2 ^ m → at symbols value (now (sum .exit)) a ≡ symbols .ring .plus (at symbols value (now (sum .entry)) a) (image (full symbols m) b (at symbols value (now (column .entry))) a)) ⌝ }
+    ensures { λ _. ⌜ Holds symbols value (2 ^ m) (now (sum .exit)) (added symbols (at symbols value (now (sum .entry))) (image (full symbols m) b (at symbols value (now (column .entry))))) ⌝ }
 {
     let owner = data_box::<F>(m, b);
     for j in 0..power(m - 1) {
@@ -77,7 +77,7 @@ pub(crate) fn take_half<F: Sums>(m: usize, x: usize, column: &[F], half: &mut [F
     requires size { ⌜ m ≤ 6 ⌝ }
     requires rows { ⌜ length (now column) ≡ 2 ^ m ⌝ }
     requires pairs { ⌜ length (now half) ≡ 2 ^ (m - 1) ⌝ }
-    ensures { λ _. ⌜ ((j : ℕ) → j < 2 ^ (m - 1) → at symbols value (now (half .exit)) j ≡ half-for (full symbols m) x (at symbols value (now (column .entry))) j) ⌝ }
+    ensures { λ _. ⌜ Holds symbols value (2 ^ (m - 1)) (now (half .exit)) (half-for (full symbols m) x (at symbols value (now (column .entry)))) ⌝ }
 {
     let kind = kind_at(m, x);
     let shift = shift_at(m, x);
@@ -90,7 +90,7 @@ pub(crate) fn take_half<F: Sums>(m: usize, x: usize, column: &[F], half: &mut [F
 // Adds a column into another, row by row. Refused, with nothing written, if their lengths differ.
 pub fn add_column<F: Sums>(sum: &mut [F], column: &[F]) -> Result<(), Refusal>
     ensures answer { λ r. ⌜ refusal r ≡ first (wrong-lengths ((length (now (column .entry)), length (now (sum .entry))) ∷ []) ∷ []) ⌝ }
-    ensures sums { λ r. ⌜ elim r [ Ok _ ↦ ((a : ℕ) → a < length (now (sum .entry)) → at symbols value (now (sum .exit)) a ≡ symbols .ring .plus (at symbols value (now (sum .entry)) a) (at symbols value (now (column .entry)) a)) | Err _ ↦ now (sum .exit) ≡ now (sum .entry) ] ⌝ }
+    ensures sums { λ r. ⌜ elim r [ Ok _ ↦ Holds symbols value (length (now (sum .entry))) (now (sum .exit)) (added symbols (at symbols value (now (sum .entry))) (at symbols value (now (column .entry)))) | Err _ ↦ now (sum .exit) ≡ now (sum .entry) ] ⌝ }
 {
     earliest(&[(wrong_lengths(&[(column.len(), sum.len())]), Refusal::Length)])?;
     add_rows(sum, column);
@@ -102,7 +102,7 @@ pub fn add_column<F: Sums>(sum: &mut [F], column: &[F]) -> Result<(), Refusal>
 // a box that does not fit.
 pub fn add_image<F: Sums>(m: usize, b: usize, sum: &mut [F], column: &[F]) -> Result<(), Refusal>
     ensures answer { λ r. ⌜ refusal r ≡ first (wrong-size m ∷ few-marks symbols m ∷ wrong-lengths ((length (now (sum .entry)), 2 ^ m) ∷ (length (now (column .entry)), 2 ^ m) ∷ []) ∷ no-box (3 * m) b ∷ []) ⌝ }
-    ensures sums { λ r. ⌜ elim r [ Ok _ ↦ ((a : ℕ) → a < 2 ^ m → at symbols value (now (sum .exit)) a ≡ symbols .ring .plus (at symbols value (now (sum .entry)) a) (image (full symbols m) (b - 1) (at symbols value (now (column .entry))) a)) | Err _ ↦ now (sum .exit) ≡ now (sum .entry) ] ⌝ }
+    ensures sums { λ r. ⌜ elim r [ Ok _ ↦ Holds symbols value (2 ^ m) (now (sum .exit)) (added symbols (at symbols value (now (sum .entry))) (image (full symbols m) (b - 1) (at symbols value (now (column .entry))))) | Err _ ↦ now (sum .exit) ≡ now (sum .entry) ] ⌝ }
 {
     sized(m)?;
     let rows = power(m);
@@ -125,7 +125,7 @@ pub fn add_image<F: Sums>(m: usize, b: usize, sum: &mut [F], column: &[F]) -> Re
 // or a box that does not fit.
 pub fn half<F: Sums>(m: usize, lost: usize, column: &[F], into: &mut [F]) -> Result<(), Refusal>
     ensures answer { λ r. ⌜ refusal r ≡ first (wrong-size m ∷ wrong-lengths ((length (now (column .entry)), 2 ^ m) ∷ (length (now (into .entry)), 2 ^ (m - 1)) ∷ []) ∷ no-box (3 * m + 2) lost ∷ parity-box (3 * m) lost ∷ []) ⌝ }
-    ensures half { λ r. ⌜ elim r [ Ok _ ↦ ((j : ℕ) → j < 2 ^ (m - 1) → at symbols value (now (into .exit)) j ≡ half-for (full symbols m) (lost - 1) (at symbols value (now (column .entry))) j) | Err _ ↦ now (into .exit) ≡ now (into .entry) ] ⌝ }
+    ensures half { λ r. ⌜ elim r [ Ok _ ↦ Holds symbols value (2 ^ (m - 1)) (now (into .exit)) (half-for (full symbols m) (lost - 1) (at symbols value (now (column .entry)))) | Err _ ↦ now (into .exit) ≡ now (into .entry) ] ⌝ }
 {
     sized(m)?;
     earliest(

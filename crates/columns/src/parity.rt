@@ -4,7 +4,7 @@ ghost use mathlib.Core.List.{[], _∷_};
 ghost use mathlib.Core.Path.{_≡_};
 ghost use Prim.Native.Nat.{ℕ, _+_, _-_, _*_, _^_, _<_, _≤_};
 ghost use Rattle.code.specs.Codes.{full, parity1, parity2};
-ghost use Rattle.code.specs.Contents.{at, parts};
+ghost use Rattle.code.specs.Contents.{Holds, at, parts};
 ghost use Rattle.refusal.specs.Refusals.{earliest as soonest, few-marks, refusal, wrong-lengths, wrong-size};
 ghost use Rattle.std.specs.declared.result.Result.the-variants.{Err, Ok};
 ghost use Rattle.columns.specs.Sizes.{Sized};
@@ -26,10 +26,10 @@ fn add_columns<F: Sums>(m: usize, file: &[F], first: &mut [F], second: &mut [F])
     requires whole { ⌜ length (now file) ≡ 3 * m * 2 ^ m ⌝ }
     requires sums { ⌜ length (now first) ≡ 2 ^ m ⌝ }
     requires images { ⌜ length (now second) ≡ 2 ^ m ⌝ }
-    requires no_sums { ⌜ ((a : ℕ) → a < 2 ^ m → at symbols value (now first) a ≡ symbols .ring .zero) ⌝ }
-    requires no_images { ⌜ ((a : ℕ) → a < 2 ^ m → at symbols value (now second) a ≡ symbols .ring .zero) ⌝ }
-    ensures first { λ _. ⌜ ((a : ℕ) → a < 2 ^ m → at symbols value (now (first .exit)) a ≡ parity1 (full symbols m) (parts symbols value (2 ^ m) (now (file .entry))) a) ⌝ }
-    ensures second { λ _. ⌜ ((a : ℕ) → a < 2 ^ m → at symbols value (now (second .exit)) a ≡ parity2 (full symbols m) (parts symbols value (2 ^ m) (now (file .entry))) a) ⌝ }
+    requires no_sums { ⌜ Holds symbols value (2 ^ m) (now first) (λ _. symbols .ring .zero) ⌝ }
+    requires no_images { ⌜ Holds symbols value (2 ^ m) (now second) (λ _. symbols .ring .zero) ⌝ }
+    ensures first { λ _. ⌜ Holds symbols value (2 ^ m) (now (first .exit)) (parity1 (full symbols m) (parts symbols value (2 ^ m) (now (file .entry)))) ⌝ }
+    ensures second { λ _. ⌜ Holds symbols value (2 ^ m) (now (second .exit)) (parity2 (full symbols m) (parts symbols value (2 ^ m) (now (file .entry)))) ⌝ }
 {
     let rows = power(m);
     for b in 0..KINDS * m {
@@ -44,8 +44,8 @@ fn write_parities<F: Sums>(m: usize, file: &[F], first: &mut [F], second: &mut [
     requires whole { ⌜ length (now file) ≡ 3 * m * 2 ^ m ⌝ }
     requires sums { ⌜ length (now first) ≡ 2 ^ m ⌝ }
     requires images { ⌜ length (now second) ≡ 2 ^ m ⌝ }
-    ensures first { λ _. ⌜ ((a : ℕ) → a < 2 ^ m → at symbols value (now (first .exit)) a ≡ parity1 (full symbols m) (parts symbols value (2 ^ m) (now (file .entry))) a) ⌝ }
-    ensures second { λ _. ⌜ ((a : ℕ) → a < 2 ^ m → at symbols value (now (second .exit)) a ≡ parity2 (full symbols m) (parts symbols value (2 ^ m) (now (file .entry))) a) ⌝ }
+    ensures first { λ _. ⌜ Holds symbols value (2 ^ m) (now (first .exit)) (parity1 (full symbols m) (parts symbols value (2 ^ m) (now (file .entry)))) ⌝ }
+    ensures second { λ _. ⌜ Holds symbols value (2 ^ m) (now (second .exit)) (parity2 (full symbols m) (parts symbols value (2 ^ m) (now (file .entry)))) ⌝ }
 {
     clear(first);
     clear(second);
@@ -62,8 +62,8 @@ pub fn parities<F: Sums>(
     second: &mut [F],
 ) -> Result<(), Refusal>
     ensures answer { λ r. ⌜ refusal r ≡ soonest (wrong-size m ∷ few-marks symbols m ∷ wrong-lengths ((length (now (file .entry)), 3 * m * 2 ^ m) ∷ (length (now (first .entry)), 2 ^ m) ∷ (length (now (second .entry)), 2 ^ m) ∷ []) ∷ []) ⌝ }
-    ensures sums { λ r. ⌜ elim r [ Ok _ ↦ ((a : ℕ) → a < 2 ^ m → at symbols value (now (first .exit)) a ≡ parity1 (full symbols m) (parts symbols value (2 ^ m) (now (file .entry))) a) | Err _ ↦ now (first .exit) ≡ now (first .entry) ] ⌝ }
-    ensures images { λ r. ⌜ elim r [ Ok _ ↦ ((a : ℕ) → a < 2 ^ m → at symbols value (now (second .exit)) a ≡ parity2 (full symbols m) (parts symbols value (2 ^ m) (now (file .entry))) a) | Err _ ↦ now (second .exit) ≡ now (second .entry) ] ⌝ }
+    ensures sums { λ r. ⌜ elim r [ Ok _ ↦ Holds symbols value (2 ^ m) (now (first .exit)) (parity1 (full symbols m) (parts symbols value (2 ^ m) (now (file .entry)))) | Err _ ↦ now (first .exit) ≡ now (first .entry) ] ⌝ }
+    ensures images { λ r. ⌜ elim r [ Ok _ ↦ Holds symbols value (2 ^ m) (now (second .exit)) (parity2 (full symbols m) (parts symbols value (2 ^ m) (now (file .entry)))) | Err _ ↦ now (second .exit) ≡ now (second .entry) ] ⌝ }
 {
     sized(m)?;
     let rows = power(m);

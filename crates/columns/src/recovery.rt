@@ -7,7 +7,7 @@ ghost use lib.Dec.{eqb};
 ghost use Prim.Native.Nat.{ℕ, _+_, _-_, _*_, _%_, _^_, _<_, _≤_};
 ghost use Rattle.code.specs.Blocks.{_∸_, block as blocked};
 ghost use Rattle.code.specs.Codes.{full, Given, image};
-ghost use Rattle.code.specs.Contents.{at, parts};
+ghost use Rattle.code.specs.Contents.{Holds, at, parts};
 ghost use Rattle.code.specs.Recovery.{eigenvalue as eigen, half-image, lost-half, lost-image, recover as recovering, recovered, seat as seated};
 ghost use Rattle.refusal.specs.Refusals.{earliest as first, few-marks, no-box, parity-box, refusal, wrong-lengths, wrong-size};
 ghost use Rattle.code.specs.Rows.{digit, lower, odd, pair-of};
@@ -190,7 +190,7 @@ fn write_pairs<F: Sums>(m: usize, x: usize, d: F, halves: &[F], column: &mut [F]
     requires lost { ⌜ x < 3 * m ⌝ }
     requires all { ⌜ length (now halves) ≡ (3 * m + 1) * 2 ^ (m - 1) ⌝ }
     requires rows { ⌜ length (now column) ≡ 2 ^ m ⌝ }
-    ensures { λ _. ⌜ ((a : ℕ) → a < 2 ^ m → at symbols value (now (column .exit)) a ≡ recovered (full symbols m) x (value d) (parts symbols value (2 ^ (m - 1)) (now (halves .entry))) (pair-of (m - (x % m + 1)) a) (odd (digit (m - (x % m + 1)) a))) ⌝ }
+    ensures { λ _. ⌜ Holds symbols value (2 ^ m) (now (column .exit)) (λ a. recovered (full symbols m) x (value d) (parts symbols value (2 ^ (m - 1)) (now (halves .entry))) (pair-of (m - (x % m + 1)) a) (odd (digit (m - (x % m + 1)) a))) ⌝ }
 {
     let lost = data_box::<F>(m, x);
     for j in 0..power(m - 1) {
