@@ -44,7 +44,7 @@ pub fn shift_at(m: usize, b: usize) -> usize
 // The data box in place b, from 0. Absent for a size outside 1 to 6, a place
 // that is none of the 3m, and where the field lacks the marks of its direction.
 pub fn data_box<F: Sums>(m: usize, b: usize) -> Option<DataBox<F>>
-    ensures { elim result [ None ↦ (Fits symbols m b → ⊥) | Some o ↦ Fits symbols m b × BoxOf (full symbols m) b o.kind o.shift (value o.p) (value o.q) ] }
+    ensures { elim result [ None ↦ (Fits F.symbols m b → ⊥) | Some o ↦ Fits F.symbols m b × BoxOf (full F.symbols m) b o.kind o.shift (F.value o.p) (F.value o.q) ] }
 {
     if m < 1 || 6 < m || KINDS * m <= b {
         return None;

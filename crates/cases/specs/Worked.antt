@@ -7,7 +7,7 @@ use Rattle.field.specs.Symbols.{Symbols}
 use Rattle.code.specs.Codes.{full, column, parity1, parity2, half_for, helper, Given}
 use Rattle.prime.specs.Five.{five_symbols}
 use Rattle.prime.specs.Words.{word_symbols}
-use Rattle.bytes.specs.Bytes.{byte_symbols}
+use Rattle.byte_field.specs.Bytes.{byte_symbols}
 use Rattle.four.specs.Four.{four_symbols}
 
 -- f 0 to f (n - 1)

@@ -1,5 +1,5 @@
 // The code against cases worked out by hand.
-use bytes::Byte;
+use byte_field::Byte;
 use columns::{add_column, add_image, half, parities, restore};
 use field::{Quotients, Sums};
 use four::Four;

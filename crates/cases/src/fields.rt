@@ -1,5 +1,5 @@
 // The fields against tables of other code, or written out by hand.
-use bytes::Byte;
+use byte_field::Byte;
 use field::{Quotients, Sums};
 use four::Four;
 use prime::five::Five;

@@ -1,5 +1,7 @@
 // Cases worked out by hand: once against the definitions, by computation, and
 // once against the code, by running it.
+#![tactic(auto)]
+
 ghost use Rattle.cases.specs.Worked.{Worked};
 
 #[cfg(test)]

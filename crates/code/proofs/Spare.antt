@@ -5,7 +5,8 @@ use Rattle.std.proofs.lemmas.Bool.{cases_lt, cases_eq, cond-true, cond-false, an
 use Rattle.field.specs.Ring.{Ring, Divides}
 use Rattle.field.proofs.Solver.{o, i, ◌⊕◌, ◌⊖◌, ◌≐◌, ◌⟸◌, ◌·◌, ⊝◌, ring_by}
 use Rattle.code.specs.Blocks.{◌∸◌}
-use Rattle.code.specs.Codes.{Code, Proper, sum, kind, shift, eigen_p, eigen_q, column, half_for, helper, data_boxes, Alike, HasHalves, NoneToSpare}
+use Rattle.code.specs.Codes.{Code, Proper, sum, kind, shift, eigen_p, eigen_q, column, half_for, helper, data_boxes, Alike, HasHalves}
+use Rattle.code.specs.Laws.{NoneToSpare}
 use Rattle.code.specs.Recovery.{seat, recover, half_image, taken, taken_image, lost_half, lost_image, recovered}
 use Rattle.code.specs.Rows.{odd, digit, lower, pair_of}
 use Rattle.code.specs.declared.Kind.{Kind}

@@ -8,7 +8,7 @@ use Rattle.field.specs.Ring.{Ring, Divides}
 use Rattle.field.specs.Symbols.{Symbols}
 use Rattle.field.proofs.Solver.{o, i, ◌⊕◌, ◌⊖◌, ◌≐◌, ◌⟸◌, ◌·◌, ring, ring_by}
 use Rattle.code.specs.Blocks.{kind_number, kind_of, half, ◌∸◌}
-use Rattle.code.specs.Codes.{Code, Proper, full, sum, kind, direction, shift, eigen_p, eigen_q, image, parity1, parity2, column, half_for, helper, Alike, HasHalves, Given, Restorable}
+use Rattle.code.specs.Codes.{Code, Proper, full, sum, kind, direction, shift, eigen_p, eigen_q, image, parity1, parity2, column, half_for, helper, Alike, HasHalves, Given, Restorable, Renews}
 use Rattle.code.specs.Recovery.{seat, eigenvalue, recover, half_image, recovered}
 use Rattle.code.specs.Rows.{odd, digit, partner, lower, pair_of}
 use Rattle.code.proofs.Digits.{rows}
@@ -217,6 +217,12 @@ module _ {A : Type 0} (c : Code A) (ok : Proper c) where
     pub recovered_given : (g : ℕ → ℕ → A) (C : ℕ → A) → ((a : ℕ) → a < 2 ^ m → C a ≡ recovered c x d g (pair_of k a) (odd (digit k a))) → Given c x g C
     recovered_given g C h f has a l =
         known_given g f has a l ∙ ap (known g) (sym (row_of_pair k a)) ∙ known_recovered g (odd (digit k a)) (pair_of k a) ∙ sym (h a l)
+
+pub renews : {A : Type 0} (R : Ring A) → Divides R → Renews R
+renews R divides m kinds mark ok x hx =
+    let c : Code _ = record { ring = R; size = m; kinds = kinds; mark = mark } in
+    let r = divides (◌∸◌ R (eigen_q c x) (eigen_p c x)) (gap c ok x) in
+    restorable c ok x hx r.0 (R.times_comm r.0 (◌∸◌ R (eigen_q c x) (eigen_p c x)) ∙ r.1)
 
 -- the code of a cabinet is proper where the field has 2m marks
 pub proper : (Y : Symbols) (m : ℕ) → 1 ≤ m → 2 * m ≤ Y.marks → Proper (full Y m)

@@ -100,50 +100,7 @@ module _ {A : Type 0} (c : Code A) where
     pub exists : (g : ℕ → ℕ → A) → (f : File) × HasHalves x f g
     pub agree : (g : ℕ → ℕ → A) (f f' : File) → HasHalves x f g → HasHalves x f' g → Alike (f x) (f' x)
 
-  -- two files are the same
-  abbrev pub Same : File → File → Type 0
-  Same f f' = (b : ℕ) → b < data_boxes → Alike (f b) (f' b)
-
-  -- the file f has the columns g in all boxes but x and y
-  abbrev pub HasColumns : ℕ → ℕ → File → (ℕ → Column) → Type 0
-  HasColumns x y f g = (b : ℕ) → b < data_boxes + 2 → (b ≢ x) → (b ≢ y) → Alike (column f b) (g b)
-
-  -- two files have the same columns in all boxes but x and y
-  abbrev pub AgreeBut : ℕ → ℕ → File → File → Type 0
-  AgreeBut x y f f' = (b : ℕ) → b < data_boxes + 2 → (b ≢ x) → (b ≢ y) → Alike (column f b) (column f' b)
-
-  -- whatever the columns of the boxes but x and y, exactly one file has them
-  pub record Decodable (x y : ℕ) : Type 0 where
-    pub exists : (g : ℕ → Column) → (f : File) × HasColumns x y f g
-    pub only : (g : ℕ → Column) (f f' : File) → HasColumns x y f g → HasColumns x y f' g → Same f f'
-
-  -- two files have the same halves for the lost box x but for number j of the helper in place h
-  abbrev pub HalvesBut : ℕ → ℕ → ℕ → File → File → Type 0
-  HalvesBut x h j f f' =
-      (i : ℕ) → i < suc data_boxes → (l : ℕ) → l < 2 ^ (c.size - 1) → (i ≡ h → l ≢ j)
-      → half_for x (column f (helper x i)) l ≡ half_for x (column f' (helper x i)) l
-
-  -- no number of the halves can be spared: whichever is left out, every file has another that differs in the lost column
-  abbrev pub NoneToSpare : ℕ → Type 0
-  NoneToSpare x =
-      (h : ℕ) → h < suc data_boxes → (j : ℕ) → j < 2 ^ (c.size - 1)
-      → (f : File) → (f' : File) × HalvesBut x h j f f' × (Alike (f x) (f' x) → ⊥)
-
-  -- what the code promises
-  pub record Laws : Type 0 where
-    -- any two columns: from the other boxes, whatever they hold
-    pub any_two : (x y : ℕ) → x < data_boxes + 2 → y < data_boxes + 2 → (x ≢ y) → Decodable x y
-    -- any boxes as many as there are data boxes: files that agree in them are the same and agree in the other two
-    pub any_boxes : (x y : ℕ) → x < data_boxes + 2 → y < data_boxes + 2 → (x ≢ y) → (f f' : File) → AgreeBut x y f f'
-        → Same f f' × ((b : ℕ) → b < data_boxes + 2 → Alike (column f b) (column f' b))
-    pub halves : (x : ℕ) → x < data_boxes → Restorable x
-    pub none_to_spare : (x : ℕ) → x < data_boxes → NoneToSpare x
-
 -- so it is for every size, every choice of at most three kinds and all marks that are distinct and not zero
-abbrev pub CodeStands : {A : Type 0} → Ring A → Type 0
-CodeStands {A} R =
-    (m kinds : ℕ) (mark : ℕ → A) → let c : Code A = record { ring = R; size = m; kinds = kinds; mark = mark } in Proper c → Laws c
-
--- and so for every cabinet whose field has 2m marks
-abbrev pub CabinetsStand : Symbols → Type 0
-CabinetsStand Y = (m : ℕ) → 1 ≤ m → 2 * m ≤ Y.marks → Laws (full Y m)
+abbrev pub Renews : {A : Type 0} → Ring A → Type 0
+Renews {A} R =
+    (m kinds : ℕ) (mark : ℕ → A) → let c : Code A = record { ring = R; size = m; kinds = kinds; mark = mark } in Proper c → (x : ℕ) → x < kinds * m → Restorable c x

@@ -1,7 +1,9 @@
 // The array code: its definitions, its blocks, and what is proved of it.
+#![tactic(auto)]
+
 ghost use Rattle.std.specs.Prelude.{◌≡◌, true, false};
 ghost use Rattle.code.specs.Blocks.{Eigen, block as blocked};
-ghost use Rattle.code.specs.Codes.{CabinetsStand, CodeStands};
+ghost use Rattle.code.specs.Codes.{Renews};
 ghost use Rattle.code.specs.Rows.{Paired};
 
 use field::{Quotients, Sums};
@@ -17,8 +19,8 @@ pub enum Kind {
 
 // Both rows of a block, by kind.
 fn rows_of_block<F: Sums>(kind: Kind, p: F, q: F, s: F, t: F) -> (F, F)
-    ensures lower { value result.0 ≡ blocked symbols.ring kind (value p) (value q) (value s) (value t) false }
-    ensures upper { value result.1 ≡ blocked symbols.ring kind (value p) (value q) (value s) (value t) true }
+    ensures lower { F.value result.0 ≡ blocked F.symbols.ring kind (F.value p) (F.value q) (F.value s) (F.value t) false }
+    ensures upper { F.value result.1 ≡ blocked F.symbols.ring kind (F.value p) (F.value q) (F.value s) (F.value t) true }
 {
     match kind {
         Kind::Lower => (
@@ -36,11 +38,21 @@ fn rows_of_block<F: Sums>(kind: Kind, p: F, q: F, s: F, t: F) -> (F, F)
 // What the block of a kind makes of s in the lower and t in the upper row. It
 // is the code's block, since it has the eigenvalues of the construction.
 pub fn block<F: Sums>(kind: Kind, p: F, q: F, s: F, t: F) -> (F, F)
-    ensures lower { value result.0 ≡ blocked symbols.ring kind (value p) (value q) (value s) (value t) false }
-    ensures upper { value result.1 ≡ blocked symbols.ring kind (value p) (value q) (value s) (value t) true }
-    ensures eigen { Eigen symbols.ring kind (value p) (value q) (value s) (value t) (value result.0) (value result.1) }
+    ensures lower { F.value result.0 ≡ blocked F.symbols.ring kind (F.value p) (F.value q) (F.value s) (F.value t) false }
+    ensures upper { F.value result.1 ≡ blocked F.symbols.ring kind (F.value p) (F.value q) (F.value s) (F.value t) true }
+    ensures eigen { Eigen F.symbols.ring kind (F.value p) (F.value q) (F.value s) (F.value t) (F.value result.0) (F.value result.1) }
 {
     rows_of_block(kind, p, q, s, t)
+}
+
+// A theorem of every field with quotients, every size, at most three kinds and
+// all marks that are distinct and not zero: whatever halves the helpers of a
+// lost data box send, there are files that have those halves, and all of these
+// agree in the lost column.
+pub fn halves_suffice<F: Quotients>()
+    ensures { Renews F.Sums.symbols.ring }
+{
+    F::divides()
 }
 
 // A theorem on rows: partners differ in one digit alone, and the pairs of a

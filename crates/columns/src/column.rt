@@ -4,17 +4,17 @@ ghost use Rattle.code.specs.Blocks.{half as halved};
 ghost use Rattle.code.specs.Codes.{full, half_for, image};
 ghost use Rattle.code.specs.Contents.{Holds, added, at};
 ghost use Rattle.refusal.specs.Refusals.{earliest as first, few_marks, no_box, parity_box, refusal, wrong_lengths, wrong_size};
-ghost use Rattle.boxes.specs.Sizes.{Sized};
+ghost use Rattle.columns.specs.Sizes.{Sized};
 
-use crate::sized::{data_box, power, rows_of_pair, shift_at};
-use boxes::{KINDS, kind_at};
+use crate::boxes::{KINDS, data_box, kind_at, shift_at};
+use crate::rows::{power, rows_of_pair};
 use code::{Kind, block};
 use field::Sums;
 use refusal::{Refusal, earliest, few_marks, outside, sized, wrong_lengths};
 
 // Makes every symbol of a column zero.
 pub(crate) fn clear<F: Sums>(column: &mut [F])
-    ensures { Holds symbols value (length column.old) column.new (λ _. symbols.ring.zero) }
+    ensures { Holds F.symbols F.value (length column.old) column.new (λ _. F.symbols.ring.zero) }
 {
     for a in 0..column.len() {
         column[a] = F::zero();
@@ -24,7 +24,7 @@ pub(crate) fn clear<F: Sums>(column: &mut [F])
 // Adds a column into another of the same length, row by row.
 pub(crate) fn add_rows<F: Sums>(sum: &mut [F], column: &[F])
     requires { length sum.old ≡ length column.now }
-    ensures { Holds symbols value (length sum.old) sum.new (added symbols (at symbols value sum.old) (at symbols value column.now)) }
+    ensures { Holds F.symbols F.value (length sum.old) sum.new (added F.symbols (at F.symbols F.value sum.old) (at F.symbols F.value column.now)) }
 {
     for a in 0..column.len() {
         sum[a] = sum[a].sum(column[a]);
@@ -33,7 +33,7 @@ pub(crate) fn add_rows<F: Sums>(sum: &mut [F], column: &[F])
 
 // The half of a pair for a lost box of a kind.
 pub(crate) fn half_of_pair<F: Sums>(kind: Kind, s: F, t: F) -> F
-    ensures { value result ≡ halved symbols.ring kind (value s) (value t) }
+    ensures { F.value result ≡ halved F.symbols.ring kind (F.value s) (F.value t) }
 {
     match kind {
         Kind::Lower => s,
@@ -44,11 +44,10 @@ pub(crate) fn half_of_pair<F: Sums>(kind: Kind, s: F, t: F) -> F
 
 // Adds the image of the column of the data box in place b, pair by pair.
 pub(crate) fn add_pairs<F: Sums>(m: usize, b: usize, sum: &mut [F], column: &[F])
-    requires sized { Sized symbols m }
-    requires inside { b < 3 * m }
+    requires sized { Sized F.symbols m }
     requires sums { length sum.old ≡ 2 ^ m }
     requires rows { length column.now ≡ 2 ^ m }
-    ensures { Holds symbols value (2 ^ m) sum.new (added symbols (at symbols value sum.old) (image (full symbols m) b (at symbols value column.now))) }
+    ensures { Holds F.symbols F.value (2 ^ m) sum.new (added F.symbols (at F.symbols F.value sum.old) (image (full F.symbols m) b (at F.symbols F.value column.now))) }
 {
     let owner = data_box::<F>(m, b);
     for j in 0..power(m - 1) {
@@ -65,7 +64,7 @@ pub(crate) fn take_half<F: Sums>(m: usize, x: usize, column: &[F], half: &mut [F
     requires size { m ≤ 6 }
     requires rows { length column.now ≡ 2 ^ m }
     requires pairs { length half.old ≡ 2 ^ (m - 1) }
-    ensures { Holds symbols value (2 ^ (m - 1)) half.new (half_for (full symbols m) x (at symbols value column.now)) }
+    ensures { Holds F.symbols F.value (2 ^ (m - 1)) half.new (half_for (full F.symbols m) x (at F.symbols F.value column.now)) }
 {
     let kind = kind_at(m, x);
     let shift = shift_at(m, x);
@@ -78,7 +77,7 @@ pub(crate) fn take_half<F: Sums>(m: usize, x: usize, column: &[F], half: &mut [F
 // Adds a column into another, row by row. Refused, with nothing written, if their lengths differ.
 pub fn add_column<F: Sums>(sum: &mut [F], column: &[F]) -> Result<(), Refusal>
     ensures answer { refusal result ≡ first (wrong_lengths ((length column.now, length sum.old) ∷ []) ∷ []) }
-    ensures sums { elim result [ Ok _ ↦ Holds symbols value (length sum.old) sum.new (added symbols (at symbols value sum.old) (at symbols value column.now)) | Err _ ↦ sum.new ≡ sum.old ] }
+    ensures sums { elim result [ Ok _ ↦ Holds F.symbols F.value (length sum.old) sum.new (added F.symbols (at F.symbols F.value sum.old) (at F.symbols F.value column.now)) | Err _ ↦ sum.new ≡ sum.old ] }
 {
     earliest(&[(wrong_lengths(&[(column.len(), sum.len())]), Refusal::Length)])?;
     add_rows(sum, column);
@@ -89,8 +88,8 @@ pub fn add_column<F: Sums>(sum: &mut [F], column: &[F]) -> Result<(), Refusal>
 // column. Refused, with nothing written, by a size, too few marks, a length or
 // a box that does not fit.
 pub fn add_image<F: Sums>(m: usize, b: usize, sum: &mut [F], column: &[F]) -> Result<(), Refusal>
-    ensures answer { refusal result ≡ first (wrong_size m ∷ few_marks symbols m ∷ wrong_lengths ((length sum.old, 2 ^ m) ∷ (length column.now, 2 ^ m) ∷ []) ∷ no_box (3 * m) b ∷ []) }
-    ensures sums { elim result [ Ok _ ↦ Holds symbols value (2 ^ m) sum.new (added symbols (at symbols value sum.old) (image (full symbols m) (b - 1) (at symbols value column.now))) | Err _ ↦ sum.new ≡ sum.old ] }
+    ensures answer { refusal result ≡ first (wrong_size m ∷ few_marks F.symbols m ∷ wrong_lengths ((length sum.old, 2 ^ m) ∷ (length column.now, 2 ^ m) ∷ []) ∷ no_box (3 * m) b ∷ []) }
+    ensures sums { elim result [ Ok _ ↦ Holds F.symbols F.value (2 ^ m) sum.new (added F.symbols (at F.symbols F.value sum.old) (image (full F.symbols m) (b - 1) (at F.symbols F.value column.now))) | Err _ ↦ sum.new ≡ sum.old ] }
 {
     sized(m)?;
     let rows = power(m);
@@ -111,7 +110,7 @@ pub fn add_image<F: Sums>(m: usize, b: usize, sum: &mut [F], column: &[F]) -> Re
 // or a box that does not fit.
 pub fn half<F: Sums>(m: usize, lost: usize, column: &[F], into: &mut [F]) -> Result<(), Refusal>
     ensures answer { refusal result ≡ first (wrong_size m ∷ wrong_lengths ((length column.now, 2 ^ m) ∷ (length into.old, 2 ^ (m - 1)) ∷ []) ∷ no_box (3 * m + 2) lost ∷ parity_box (3 * m) lost ∷ []) }
-    ensures half { elim result [ Ok _ ↦ Holds symbols value (2 ^ (m - 1)) into.new (half_for (full symbols m) (lost - 1) (at symbols value column.now)) | Err _ ↦ into.new ≡ into.old ] }
+    ensures half { elim result [ Ok _ ↦ Holds F.symbols F.value (2 ^ (m - 1)) into.new (half_for (full F.symbols m) (lost - 1) (at F.symbols F.value column.now)) | Err _ ↦ into.new ≡ into.old ] }
 {
     sized(m)?;
     earliest(&[

@@ -6,11 +6,10 @@ ghost use Rattle.code.specs.Contents.{Holds, at, parts};
 ghost use Rattle.code.specs.Recovery.{eigenvalue as eigen, half_image, lost_half, lost_image, recover as recovering, recovered, seat as seated};
 ghost use Rattle.refusal.specs.Refusals.{earliest as first, few_marks, no_box, parity_box, refusal, wrong_lengths, wrong_size};
 ghost use Rattle.code.specs.Rows.{digit, lower, odd, pair_of};
-ghost use Rattle.boxes.specs.Sizes.{Sized};
+ghost use Rattle.columns.specs.Sizes.{Sized};
 
-use crate::rows::{is_upper, partner_pairs};
-use crate::sized::{data_box, power, rows_of_pair, shift_at};
-use boxes::{DataBox, KINDS, kind_at};
+use crate::boxes::{DataBox, KINDS, data_box, kind_at, shift_at};
+use crate::rows::{is_upper, partner_pairs, power, rows_of_pair};
 use code::{Kind, block};
 use field::{Quotients, Sums};
 use refusal::{Refusal, earliest, few_marks, outside, sized, wrong_lengths};
@@ -18,7 +17,7 @@ use refusal::{Refusal, earliest, few_marks, outside, sized, wrong_lengths};
 // What a block of the helper's kind makes of the half for the lost kind, in
 // one direction: this times the half. Two boxes of one direction differ in kind.
 fn eigenvalue<F: Sums>(lost: Kind, helper: Kind, p: F, q: F) -> F
-    ensures { value result ≡ eigen symbols.ring lost helper (value p) (value q) }
+    ensures { F.value result ≡ eigen F.symbols.ring lost helper (F.value p) (F.value q) }
 {
     match (lost, helper) {
         (Kind::Lower, Kind::Upper) => q,
@@ -35,7 +34,7 @@ fn eigenvalue<F: Sums>(lost: Kind, helper: Kind, p: F, q: F) -> F
 
 // What a block gives in one of the two rows.
 fn block_at<F: Sums>(kind: Kind, p: F, q: F, s: F, t: F, upper: bool) -> F
-    ensures { value result ≡ blocked symbols.ring kind (value p) (value q) (value s) (value t) upper }
+    ensures { F.value result ≡ blocked F.symbols.ring kind (F.value p) (F.value q) (F.value s) (F.value t) upper }
 {
     let (low, high) = block(kind, p, q, s, t);
     if upper { high } else { low }
@@ -44,11 +43,10 @@ fn block_at<F: Sums>(kind: Kind, p: F, q: F, s: F, t: F, upper: bool) -> F
 // A helper of another direction: its blocks act on the half as on a column,
 // since the half has a number for each row with digit 0 in the lost direction.
 fn image_across<F: Sums>(m: usize, x: usize, b: usize, half: &[F], j: usize) -> F
-    requires sized { Sized symbols m }
-    requires inside { b < 3 * m }
+    requires sized { Sized F.symbols m }
     requires pairs { length half.now ≡ 2 ^ (m - 1) }
     requires pair { j < 2 ^ (m - 1) }
-    ensures { value result ≡ image (full symbols m) b (λ a. at symbols value half.now (pair_of (m - (x % m + 1)) a)) (lower (m - (x % m + 1)) j) }
+    ensures { F.value result ≡ image (full F.symbols m) b (λ a. at F.symbols F.value half.now (pair_of (m - (x % m + 1)) a)) (lower (m - (x % m + 1)) j) }
 {
     let owner = data_box::<F>(m, b);
     let k = shift_at(m, x);
@@ -66,11 +64,10 @@ fn image_across<F: Sums>(m: usize, x: usize, b: usize, half: &[F], j: usize) -> 
 
 // The half of the image of box b's column, from the half of the column.
 fn half_of_image<F: Sums>(m: usize, x: usize, b: usize, half: &[F], j: usize) -> F
-    requires sized { Sized symbols m }
-    requires inside { b < 3 * m }
+    requires sized { Sized F.symbols m }
     requires pairs { length half.now ≡ 2 ^ (m - 1) }
     requires pair { j < 2 ^ (m - 1) }
-    ensures { value result ≡ half_image (full symbols m) x b (at symbols value half.now) j }
+    ensures { F.value result ≡ half_image (full F.symbols m) x b (at F.symbols F.value half.now) j }
 {
     let owner = data_box::<F>(m, b);
     if owner.shift == shift_at(m, x) {
@@ -90,12 +87,11 @@ fn subtract_half<F: Sums>(
     j: usize,
     left: (F, F),
 ) -> (F, F)
-    requires sized { Sized symbols m }
-    requires inside { b < 3 * m }
+    requires sized { Sized F.symbols m }
     requires pairs { length half.now ≡ 2 ^ (m - 1) }
     requires pair { j < 2 ^ (m - 1) }
-    ensures first { value result.0 ≡ ◌∸◌ symbols.ring (value left.0) (at symbols value half.now j) }
-    ensures second { value result.1 ≡ ◌∸◌ symbols.ring (value left.1) (half_image (full symbols m) x b (at symbols value half.now) j) }
+    ensures first { F.value result.0 ≡ ◌∸◌ F.symbols.ring (F.value left.0) (at F.symbols F.value half.now j) }
+    ensures second { F.value result.1 ≡ ◌∸◌ F.symbols.ring (F.value left.1) (half_image (full F.symbols m) x b (at F.symbols F.value half.now) j) }
 {
     let image = half_of_image(m, x, b, half, j);
     (left.0.sum(half[j].negative()), left.1.sum(image.negative()))
@@ -118,13 +114,13 @@ fn subtract_box<F: Sums>(
     j: usize,
     left: (F, F),
 ) -> (F, F)
-    requires sized { Sized symbols m }
+    requires sized { Sized F.symbols m }
     requires lost { x < 3 * m }
     requires helper { b < 3 * m }
     requires all { length halves.now ≡ (3 * m + 1) * 2 ^ (m - 1) }
     requires pair { j < 2 ^ (m - 1) }
-    ensures first { value result.0 ≡ ◌∸◌ symbols.ring (value left.0) (if nat_eq b x then symbols.ring.zero else parts symbols value (2 ^ (m - 1)) halves.now (seated x b) j) }
-    ensures second { value result.1 ≡ ◌∸◌ symbols.ring (value left.1) (if nat_eq b x then symbols.ring.zero else half_image (full symbols m) x b (parts symbols value (2 ^ (m - 1)) halves.now (seated x b)) j) }
+    ensures first { F.value result.0 ≡ ◌∸◌ F.symbols.ring (F.value left.0) (if nat_eq b x then F.symbols.ring.zero else parts F.symbols F.value (2 ^ (m - 1)) halves.now (seated x b) j) }
+    ensures second { F.value result.1 ≡ ◌∸◌ F.symbols.ring (F.value left.1) (if nat_eq b x then F.symbols.ring.zero else half_image (full F.symbols m) x b (parts F.symbols F.value (2 ^ (m - 1)) halves.now (seated x b)) j) }
 {
     if b == x {
         return left;
@@ -137,12 +133,12 @@ fn subtract_box<F: Sums>(
 // The halves, at pair j, of the lost column and of its image: those of the
 // parities less those of the other data boxes.
 fn lost_halves<F: Sums>(m: usize, x: usize, halves: &[F], j: usize) -> (F, F)
-    requires sized { Sized symbols m }
+    requires sized { Sized F.symbols m }
     requires lost { x < 3 * m }
     requires all { length halves.now ≡ (3 * m + 1) * 2 ^ (m - 1) }
     requires pair { j < 2 ^ (m - 1) }
-    ensures first { value result.0 ≡ lost_half (full symbols m) x (parts symbols value (2 ^ (m - 1)) halves.now) j }
-    ensures second { value result.1 ≡ lost_image (full symbols m) x (parts symbols value (2 ^ (m - 1)) halves.now) j }
+    ensures first { F.value result.0 ≡ lost_half (full F.symbols m) x (parts F.symbols F.value (2 ^ (m - 1)) halves.now) j }
+    ensures second { F.value result.1 ≡ lost_image (full F.symbols m) x (parts F.symbols F.value (2 ^ (m - 1)) halves.now) j }
 {
     let pairs = power(m - 1);
     let boxes = KINDS * m;
@@ -156,8 +152,8 @@ fn lost_halves<F: Sums>(m: usize, x: usize, halves: &[F], j: usize) -> (F, F)
 
 // The pair again, from its half g and the half h of its block; d is the inverse of q - p.
 fn recover<F: Sums>(kind: Kind, p: F, q: F, d: F, g: F, h: F) -> (F, F)
-    ensures lower { value result.0 ≡ recovering symbols.ring kind (value p) (value q) (value d) (value g) (value h) false }
-    ensures upper { value result.1 ≡ recovering symbols.ring kind (value p) (value q) (value d) (value g) (value h) true }
+    ensures lower { F.value result.0 ≡ recovering F.symbols.ring kind (F.value p) (F.value q) (F.value d) (F.value g) (F.value h) false }
+    ensures upper { F.value result.1 ≡ recovering F.symbols.ring kind (F.value p) (F.value q) (F.value d) (F.value g) (F.value h) true }
 {
     match kind {
         Kind::Lower => (g, d.product(h.sum(q.product(g).negative()))),
@@ -171,11 +167,11 @@ fn recover<F: Sums>(kind: Kind, p: F, q: F, d: F, g: F, h: F) -> (F, F)
 
 // Writes the lost column pair by pair; d is the inverse of the difference of the lost direction's eigenvalues.
 fn write_pairs<F: Sums>(m: usize, x: usize, d: F, halves: &[F], column: &mut [F])
-    requires sized { Sized symbols m }
+    requires sized { Sized F.symbols m }
     requires lost { x < 3 * m }
     requires all { length halves.now ≡ (3 * m + 1) * 2 ^ (m - 1) }
     requires rows { length column.old ≡ 2 ^ m }
-    ensures { Holds symbols value (2 ^ m) column.new (λ a. recovered (full symbols m) x (value d) (parts symbols value (2 ^ (m - 1)) halves.now) (pair_of (m - (x % m + 1)) a) (odd (digit (m - (x % m + 1)) a))) }
+    ensures { Holds F.symbols F.value (2 ^ m) column.new (λ a. recovered (full F.symbols m) x (F.value d) (parts F.symbols F.value (2 ^ (m - 1)) halves.now) (pair_of (m - (x % m + 1)) a) (odd (digit (m - (x % m + 1)) a))) }
 {
     let lost = data_box::<F>(m, x);
     for j in 0..power(m - 1) {
@@ -189,7 +185,7 @@ fn write_pairs<F: Sums>(m: usize, x: usize, d: F, halves: &[F], column: &mut [F]
 
 // The difference of a direction's two eigenvalues, q - p.
 fn gap<F: Sums>(owner: DataBox<F>) -> F
-    ensures { value result ≡ ◌∸◌ symbols.ring (value owner.q) (value owner.p) }
+    ensures { F.value result ≡ ◌∸◌ F.symbols.ring (F.value owner.q) (F.value owner.p) }
 {
     owner.q.sum(owner.p.negative())
 }

@@ -125,7 +125,7 @@ norm (⊝ a) = neg_p (norm a)
 -- the sum of the given equations' differences, each times its factor
 abbrev pub combined : List Given → Ex
 combined [] = o
-combined (g ∷ gs) = g.times ⊗ (g.fact.lhs ⊖ g).fact.rhs ⊕ combined gs
+combined (g ∷ gs) = g.times ⊗ (g.fact.lhs ⊖ g.fact.rhs) ⊕ combined gs
 
 -- the values of the variables, from a list
 abbrev pub vals : {A : Type 0} → Ring A → List A → ℕ → A
@@ -299,14 +299,14 @@ module _ {A : Type 0} (R : Ring A) where
     sub_nil : (a b : A) → a + neg b ≡ nil → a ≡ b
     sub_nil a b e = sym (neg_neg a) ∙ ap neg (sym (neg_by a (neg b) e)) ∙ neg_neg b
 
-    solve_by : (c : Claim) → norm (c.goal.lhs ⊖ c).goal.rhs ≡ norm (combined c.given) → Under ρ c.given (holds ρ c.goal)
-    solve_by c h = from_given c.given (holds ρ c.goal) (λ z. sub_nil (ev ρ c.goal.lhs) (ev ρ c.goal.rhs) (solve ((c.goal.lhs ⊖ c).goal.rhs ≐ combined c.given) h ∙ z))
+    solve_by : (c : Claim) → norm (c.goal.lhs ⊖ c.goal.rhs) ≡ norm (combined c.given) → Under ρ c.given (holds ρ c.goal)
+    solve_by c h = from_given c.given (holds ρ c.goal) (λ z. sub_nil (ev ρ c.goal.lhs) (ev ρ c.goal.rhs) (solve ((c.goal.lhs ⊖ c.goal.rhs) ≐ combined c.given) h ∙ z))
 
   -- `ring R (a ∷ b ∷ []) (λ x y. x ⊕ y ≐ y ⊕ x) refl : a + b ≡ b + a`, with as many variables as the list has values
   pub ring : (xs : List A) (f : Over Eqn xs) → let e = at_vars xs f 0 in norm e.lhs ≡ norm e.rhs → holds (vals R xs) e
   ring xs f h = solve (vals R xs) (at_vars xs f 0) h
 
   -- the same from given equations, each with the factor that it is taken times: `ring_by R (a ∷ b ∷ []) (λ x y. x ⊗ x ≐ y ⊗ y ⟸ ((x ⊕ y) · x ≐ y) ∷ []) refl h`
-  pub ring_by : (xs : List A) (f : Over Claim xs) → let c = at_vars xs f 0 in norm (c.goal.lhs ⊖ c).goal.rhs ≡ norm (combined c.given)
+  pub ring_by : (xs : List A) (f : Over Claim xs) → let c = at_vars xs f 0 in norm (c.goal.lhs ⊖ c.goal.rhs) ≡ norm (combined c.given)
       → Under (vals R xs) c.given (holds (vals R xs) c.goal)
   ring_by xs f h = solve_by (vals R xs) (at_vars xs f 0) h

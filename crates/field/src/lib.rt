@@ -1,4 +1,6 @@
 // Fields in two steps: sums, and quotients built on them.
+#![tactic(auto)]
+
 ghost use Rattle.std.specs.Prelude.{◌≡◌, ℕ, ◌<◌, ◌≤◌, T, Some, None};
 ghost use Rattle.field.specs.Ring.{Divides};
 ghost use Rattle.field.specs.Symbols.{Symbols};

@@ -1,4 +1,6 @@
 // Four: exclusive or as the sum, and a table of products.
+#![tactic(auto)]
+
 ghost use Rattle.std.specs.Int.Bits.{bit_xor};
 ghost use Rattle.std.specs.Prelude.{◌≡◌, ◌<◌};
 ghost use Rattle.field.specs.Numbers.{NumberOf};

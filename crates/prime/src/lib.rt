@@ -1,4 +1,6 @@
 // Integers modulo a prime: the fields of five and of words.
+#![tactic(auto)]
+
 pub mod five;
 mod modulo;
 pub mod words;

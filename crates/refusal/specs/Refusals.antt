@@ -2,7 +2,7 @@
 use Rattle.std.specs.Prelude.{ℕ, ◌*◌, Bool, false, cond, not, ◌||◌, List, [], ◌∷◌, Some, None, Ok, Err, Option, Result, ◌==◌, nat_lt}
 use Rattle.field.specs.Symbols.{Symbols}
 use Rattle.refusal.specs.declared.Refusal.{Refusal}
-use Rattle.refusal.specs.declared.Refusal.TheVariants.{Size, Marks, Length, NoBox, ManyOut, Parity, Helper, Unheard}
+use Rattle.refusal.specs.declared.Refusal.TheVariants.{Size, Marks, Length, NoBox, Parity}
 
 -- the number of each refusal
 abbrev pub number : Refusal → ℕ
@@ -10,10 +10,7 @@ number Size = 2
 number Marks = 3
 number Length = 5
 number NoBox = 6
-number ManyOut = 10
 number Parity = 11
-number Helper = 12
-number Unheard = 13
 
 -- a reason: whether it fits, and the refusal
 abbrev pub Reason : Type 0

@@ -1,4 +1,6 @@
 // Why a call is declined.
+#![tactic(auto)]
+
 ghost use Rattle.std.specs.Prelude.{◌≡◌, ℕ, ◌*◌, ◌≤◌, not, ◌||◌, [], ◌∷◌, nat_lt};
 ghost use Rattle.refusal.specs.Refusals.{any_wrong, earliest as first, number as number_of, refusal, wrong_size};
 
@@ -14,14 +16,8 @@ pub enum Refusal {
     Length,
     // There is no box of that number.
     NoBox,
-    // Three or more boxes are out.
-    ManyOut,
     // A data box is wanted, and the box is a parity box.
     Parity,
-    // The helper is the lost box, or has been heard already.
-    Helper,
-    // A helper has not been heard yet.
-    Unheard,
 }
 
 impl Refusal {
@@ -34,10 +30,7 @@ impl Refusal {
             Refusal::Marks => 3,
             Refusal::Length => 5,
             Refusal::NoBox => 6,
-            Refusal::ManyOut => 10,
             Refusal::Parity => 11,
-            Refusal::Helper => 12,
-            Refusal::Unheard => 13,
         }
     }
 }
@@ -76,7 +69,7 @@ pub fn sized(m: usize) -> Result<(), Refusal>
 
 // Does the field have fewer than 2m marks?
 pub fn few_marks<F: Sums>(m: usize) -> bool
-    ensures { result ≡ nat_lt symbols.marks (2 * m) }
+    ensures { result ≡ nat_lt F.symbols.marks (2 * m) }
 {
     (F::mark_count() as usize) / 2 < m
 }

@@ -1,7 +1,9 @@
 // A cabinet keeps a recipient's levels in six data boxes and two parity boxes.
 // One data box is lost, and is renewed from half of each other column.
+#![tactic(auto)]
+
 use anyhow::anyhow;
-use bytes::Byte;
+use byte_field::Byte;
 use columns::{half, parities, restore};
 use field::Sums;
 use refusal::Refusal;

@@ -18,8 +18,8 @@ pub(crate) struct Matrix<F> {
 
 // The matrix times a pair.
 pub(crate) fn apply<F: Sums>(matrix: Matrix<F>, s: F, t: F) -> (F, F)
-    ensures lower { value result.0 ≡ symbols.ring.plus (symbols.ring.times (value matrix.lower.0) (value s)) (symbols.ring.times (value matrix.lower.1) (value t)) }
-    ensures upper { value result.1 ≡ symbols.ring.plus (symbols.ring.times (value matrix.upper.0) (value s)) (symbols.ring.times (value matrix.upper.1) (value t)) }
+    ensures lower { F.value result.0 ≡ F.symbols.ring.plus (F.symbols.ring.times (F.value matrix.lower.0) (F.value s)) (F.symbols.ring.times (F.value matrix.lower.1) (F.value t)) }
+    ensures upper { F.value result.1 ≡ F.symbols.ring.plus (F.symbols.ring.times (F.value matrix.upper.0) (F.value s)) (F.symbols.ring.times (F.value matrix.upper.1) (F.value t)) }
 {
     let (lower, upper) = (matrix.lower, matrix.upper);
     (
@@ -30,7 +30,7 @@ pub(crate) fn apply<F: Sums>(matrix: Matrix<F>, s: F, t: F) -> (F, F)
 
 // From a pair to its functionals with the eigenvalues p and q.
 pub(crate) fn into_eigen<F: Sums>(kind: Kind) -> Matrix<F>
-    ensures { Entrywise (entries value result.lower result.upper) (to_eigen symbols.ring kind) }
+    ensures { Entrywise (entries F.value result.lower result.upper) (to_eigen F.symbols.ring kind) }
 {
     let (none, one) = (F::zero(), F::one());
     match kind {
@@ -51,7 +51,7 @@ pub(crate) fn into_eigen<F: Sums>(kind: Kind) -> Matrix<F>
 
 // And back.
 pub(crate) fn out_of_eigen<F: Sums>(kind: Kind) -> Matrix<F>
-    ensures { Entrywise (entries value result.lower result.upper) (from_eigen symbols.ring kind) }
+    ensures { Entrywise (entries F.value result.lower result.upper) (from_eigen F.symbols.ring kind) }
 {
     let (none, one) = (F::zero(), F::one());
     match kind {
@@ -72,7 +72,7 @@ pub(crate) fn out_of_eigen<F: Sums>(kind: Kind) -> Matrix<F>
 
 // The block of a data box.
 fn of_block<F: Sums>(kind: Kind, p: F, q: F) -> Matrix<F>
-    ensures { Entrywise (entries value result.lower result.upper) (block_matrix symbols.ring kind (value p) (value q)) }
+    ensures { Entrywise (entries F.value result.lower result.upper) (block_matrix F.symbols.ring kind (F.value p) (F.value q)) }
 {
     let (left, right) = (
         block(kind, p, q, F::one(), F::zero()),
@@ -85,14 +85,14 @@ fn of_block<F: Sums>(kind: Kind, p: F, q: F) -> Matrix<F>
 }
 
 fn minus<F: Sums>(a: F, b: F) -> F
-    ensures { value result ≡ ◌∸◌ symbols.ring (value a) (value b) }
+    ensures { F.value result ≡ ◌∸◌ F.symbols.ring (F.value a) (F.value b) }
 {
     a.sum(b.negative())
 }
 
 // A multiple of the matrix that changes nothing.
 fn multiple<F: Sums>(f: F) -> Matrix<F>
-    ensures { Entrywise (entries value result.lower result.upper) (λ i j. symbols.ring.times (value f) (unit symbols.ring i j)) }
+    ensures { Entrywise (entries F.value result.lower result.upper) (λ i j. F.symbols.ring.times (F.value f) (unit F.symbols.ring i j)) }
 {
     let (none, all) = (f.product(F::zero()), f.product(F::one()));
     Matrix {
@@ -103,7 +103,7 @@ fn multiple<F: Sums>(f: F) -> Matrix<F>
 
 // A multiple of the difference of two matrices.
 fn scaled_difference<F: Sums>(e: F, a: Matrix<F>, b: Matrix<F>) -> Matrix<F>
-    ensures { Entrywise (entries value result.lower result.upper) (λ i j. symbols.ring.times (value e) (◌∸◌ symbols.ring (entries value a.lower a.upper i j) (entries value b.lower b.upper i j))) }
+    ensures { Entrywise (entries F.value result.lower result.upper) (λ i j. F.symbols.ring.times (F.value e) (◌∸◌ F.symbols.ring (entries F.value a.lower a.upper i j) (entries F.value b.lower b.upper i j))) }
 {
     Matrix {
         lower: (

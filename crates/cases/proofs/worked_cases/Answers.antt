@@ -1,5 +1,5 @@
 use Rattle.std.proofs.Common.{refl}
-use Rattle.bytes.specs.Product.{product}
+use Rattle.byte_field.specs.Product.{product}
 use Rattle.cases.proofs.Small.{box_1, box_3}
 use Rattle.cases.proofs.worked_cases.Goals as goal
 

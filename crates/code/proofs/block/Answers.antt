@@ -3,5 +3,5 @@ use Rattle.code.proofs.block.Goals as goal
 
 pub returns : goal.returns
 returns g c =
-    let made = c.rows-of-block.ensures in
+    let made = c.rows_of_block.ensures in
     record { lower = made.lower; upper = made.upper; eigen = eigen_of _ _ _ _ _ _ _ _ made.lower made.upper }

@@ -4,7 +4,7 @@ use Rattle.code.specs.Contents.{at}
 use Rattle.code.specs.Rows.{lower, pair_of}
 use Rattle.code.proofs.Images.{image_at_low, image_at_high}
 use Rattle.code.proofs.Pairing.{pair_lower, pair_upper, pair_below}
-use Rattle.boxes.proofs.Weights.{shift_less}
+use Rattle.columns.proofs.Weights.{shift_less}
 use Rattle.columns.proofs.Slices.{pairwise_more, read, written_else}
 use Rattle.columns.proofs.column.add_pairs.Goals as goal
 
@@ -16,15 +16,15 @@ loop-j-preserved g c =
     let b = c.args.b in
     let k = shift code b in
     let j = c.loop-j.j in
-    let low = c.rows-of-pair-low.result.0 in
-    let high = c.rows-of-pair-low.result.1 in
-    let owner = c.data-box-owner.ensures in
+    let low = c.rows_of_pair-low.result.0 in
+    let high = c.rows_of_pair-low.result.1 in
+    let owner = c.data_box-owner.ensures in
     let sum = c.loop-j.sum in
     let column = c.args.column.now in
-    let el : low ≡ lower k j = c.rows-of-pair-low.ensures.low ∙ ap (λ k. lower k j) owner.shift in
-    let eh : high ≡ lower k j + 2 ^ k = c.rows-of-pair-low.ensures.high ∙ ap (λ k. lower k j + 2 ^ k) owner.shift in
-    let rising : low < high = c.rows-of-pair-low.ensures.rising in
-    let top : high < 2 ^ c.args.m = c.rows-of-pair-low.ensures.bound in
+    let el : low ≡ lower k j = c.rows_of_pair-low.ensures.low ∙ ap (λ k. lower k j) owner.shift in
+    let eh : high ≡ lower k j + 2 ^ k = c.rows_of_pair-low.ensures.high ∙ ap (λ k. lower k j + 2 ^ k) owner.shift in
+    let rising : low < high = c.rows_of_pair-low.ensures.rising in
+    let top : high < 2 ^ c.args.m = c.rows_of_pair-low.ensures.bound in
     let hs : high < length sum = omega arith in
     let hc : high < length column = omega arith in
     let at_low : pair_of k low ≡ j = ap (pair_of k) el ∙ pair_lower k j in

@@ -17,16 +17,16 @@ loop-j-preserved g c =
     let column = c.args.column.now in
     let k = shift code c.args.x in
     let j = c.loop-j.j in
-    let low = c.rows-of-pair-low.result.0 in
-    let high = c.rows-of-pair-low.result.1 in
-    let rising : low < high = c.rows-of-pair-low.ensures.rising in
-    let top : high < 2 ^ c.args.m = c.rows-of-pair-low.ensures.bound in
-    let el : low ≡ lower k j = c.rows-of-pair-low.ensures.low ∙ ap (λ k. lower k j) c.shift-at-shift.ensures.value in
-    let eh : high ≡ lower k j + 2 ^ k = c.rows-of-pair-low.ensures.high ∙ ap (λ k. lower k j + 2 ^ k) c.shift-at-shift.ensures.value in
+    let low = c.rows_of_pair-low.result.0 in
+    let high = c.rows_of_pair-low.result.1 in
+    let rising : low < high = c.rows_of_pair-low.ensures.rising in
+    let top : high < 2 ^ c.args.m = c.rows_of_pair-low.ensures.bound in
+    let el : low ≡ lower k j = c.rows_of_pair-low.ensures.low ∙ ap (λ k. lower k j) c.shift_at-shift.ensures.value in
+    let eh : high ≡ lower k j + 2 ^ k = c.rows_of_pair-low.ensures.high ∙ ap (λ k. lower k j + 2 ^ k) c.shift_at-shift.ensures.value in
     let es = read Y v column low _ (omega arith) c.index-column-low.is ∙ ap (at Y v column) el in
     let et = read Y v column high _ (omega arith) c.index-column-high.is ∙ ap (at Y v column) eh in
-    rowwise_more Y v _ _ j c.loop-j.half c.half-of-pair.result (omega arith)
-    (c.half-of-pair.ensures ∙ (λ i. half Y.ring (c.kind-at-kind.ensures i) (es i) (et i)))
+    rowwise_more Y v _ _ j c.loop-j.half c.half_of_pair.result (omega arith)
+    (c.half_of_pair.ensures ∙ (λ i. half Y.ring (c.kind_at-kind.ensures i) (es i) (et i)))
     c.loop-j.invariant
 
 pub returns : goal.returns

@@ -5,7 +5,7 @@ use Rattle.code.specs.Recovery.{seat, half_image}
 use Rattle.code.proofs.Seats.{seat_above}
 use Rattle.columns.proofs.Slices.{read}
 use Rattle.code.proofs.Theory.{less_none, less_more}
-use Rattle.boxes.proofs.Weights.{part_fits}
+use Rattle.columns.proofs.Weights.{part_fits}
 use Rattle.columns.proofs.recovery.lost_halves.Goals as goal
 
 -- part h of the 3m + 1 halves has a number j
@@ -42,6 +42,6 @@ loop-b-preserved g c =
     let x = c.args.x in
     let j = c.args.j in
     let halves = parts Y g.F.Sums.value (2 ^ (m - 1)) c.args.halves.now in (
-      less_more R _ _ _ c.loop-b.b (λ b. cond (eqb b x) R.zero (halves (seat x b) j)) c.subtract-box-left.ensures.first c.loop-b.invariant.0,
-      less_more R _ _ _ c.loop-b.b (λ b. cond (eqb b x) R.zero (half_image (full Y m) x b (halves (seat x b)) j)) c.subtract-box-left.ensures.second c.loop-b.invariant.1,
+      less_more R _ _ _ c.loop-b.b (λ b. cond (eqb b x) R.zero (halves (seat x b) j)) c.subtract_box-left.ensures.first c.loop-b.invariant.0,
+      less_more R _ _ _ c.loop-b.b (λ b. cond (eqb b x) R.zero (half_image (full Y m) x b (halves (seat x b)) j)) c.subtract_box-left.ensures.second c.loop-b.invariant.1,
     )

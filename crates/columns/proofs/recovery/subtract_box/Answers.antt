@@ -7,7 +7,7 @@ use Rattle.code.specs.Recovery.{seat}
 use Rattle.code.proofs.Seats.{seat_most}
 use Rattle.columns.proofs.Slices.{part}
 use Rattle.code.proofs.Theory.{half_image_same, less_none}
-use Rattle.boxes.proofs.Weights.{part_fits, shift_less}
+use Rattle.columns.proofs.Weights.{part_fits, shift_less}
 use Rattle.columns.proofs.recovery.subtract_box.Goals as goal
 
 pub returns-then-b-x : goal.returns-then-b-x
@@ -26,13 +26,13 @@ ends m x b pairs at e is hx hb n =
     let same : (3 * m + 1) * pairs ≡ (3 * m + 1) * 2 ^ (m - 1) = ap (λ n. (3 * m + 1) * n) is in
     omega arith
 
-pub offset-bounds-halves-start : goal.offset-bounds-halves-start
-offset-bounds-halves-start g c =
+pub offset_bounds-halves-start : goal.offset_bounds-halves-start
+offset_bounds-halves-start g c =
     let h = ends c.args.m c.args.x c.args.b c.power-pairs.result c.seat.result c.seat.ensures c.power-pairs.ensures.value c.requires.lost c.requires.helper c.if-b-x.false in
     omega arith
 
-pub slice-bounds-subtract-half-end : goal.slice-bounds-subtract-half-end
-slice-bounds-subtract-half-end g c =
+pub slice_bounds-subtract_half-end : goal.slice_bounds-subtract_half-end
+slice_bounds-subtract_half-end g c =
     let w = ends c.args.m c.args.x c.args.b c.power-pairs.result c.seat.result c.seat.ensures c.power-pairs.ensures.value c.requires.lost c.requires.helper c.if-b-x.false in
     let h : c.seat.result * c.power-pairs.result + c.power-pairs.result ≤ length c.args.halves.now = omega arith in
     search rules
@@ -50,6 +50,6 @@ returns g c =
     let apart = ne_eqb b x c.if-b-x.false in
     let half = part Y v c.args.halves.now (2 ^ (m - 1)) (seat x b) start (start + pairs - start) (ap₂ ◌*◌ c.seat.ensures c.power-pairs.ensures.value) (omega arith) in
     record {
-      first = c.subtract-half.ensures.first ∙ ap (◌∸◌ R _) (half c.args.j c.requires.pair ∙ sym (cond-false (eqb b x) R.zero _ apart));
-      second = c.subtract-half.ensures.second ∙ ap (◌∸◌ R _) (half_image_same (full Y m) x b _ (parts Y v (2 ^ (m - 1)) c.args.halves.now (seat x b)) (shift_less m x c.requires.sized.some) (shift_less m b c.requires.sized.some) half c.args.j c.requires.pair ∙ sym (cond-false (eqb b x) R.zero _ apart));
+      first = c.subtract_half.ensures.first ∙ ap (◌∸◌ R _) (half c.args.j c.requires.pair ∙ sym (cond-false (eqb b x) R.zero _ apart));
+      second = c.subtract_half.ensures.second ∙ ap (◌∸◌ R _) (half_image_same (full Y m) x b _ (parts Y v (2 ^ (m - 1)) c.args.halves.now (seat x b)) (shift_less m x c.requires.sized.some) (shift_less m b c.requires.sized.some) half c.args.j c.requires.pair ∙ sym (cond-false (eqb b x) R.zero _ apart));
     }

@@ -8,5 +8,5 @@ returns g c =
     let v = g.F.Sums.value in
     record {
       first = c.sum.ensures ∙ ap (Y.ring.plus (v c.args.left.0)) (c.negative.ensures ∙ ap Y.ring.negative (read Y v c.args.half.now c.args.j _ (omega arith) c.index-half-j.is));
-      second = c.sum-2.ensures ∙ ap (Y.ring.plus (v c.args.left.1)) (c.negative-2.ensures ∙ ap Y.ring.negative c.half-of-image-image.ensures);
+      second = c.sum-2.ensures ∙ ap (Y.ring.plus (v c.args.left.1)) (c.negative-2.ensures ∙ ap Y.ring.negative c.half_of_image-image.ensures);
     }

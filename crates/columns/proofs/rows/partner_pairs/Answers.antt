@@ -10,8 +10,8 @@ returns c =
     let k = c.args.k in
     let l = c.args.l in
     let row = c.args.row in
-    let low : c.pair-index.result ≡ pair_of k (partner l false row) = c.pair-index.ensures ∙ ap (pair_of k) c.lower-partner-low.ensures in
-    let high : c.pair-index-2.result ≡ pair_of k (partner l true row) = c.pair-index-2.ensures ∙ ap (pair_of k) (ap₂ ◌+◌ c.lower-partner-low.ensures c.power.ensures.value) in
+    let low : c.pair_index.result ≡ pair_of k (partner l false row) = c.pair_index.ensures ∙ ap (pair_of k) c.lower_partner-low.ensures in
+    let high : c.pair_index-2.result ≡ pair_of k (partner l true row) = c.pair_index-2.ensures ∙ ap (pair_of k) (ap₂ ◌+◌ c.lower_partner-low.ensures c.power.ensures.value) in
     record {
       low = low;
       high = high;

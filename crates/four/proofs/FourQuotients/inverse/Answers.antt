@@ -6,5 +6,5 @@ use Rattle.four.proofs.FourQuotients.inverse.Goals as goal
 
 pub returns-else-n-eq0 : goal.returns-else-n-eq0
 returns-else-n-eq0 c =
-    let a = c.to-number-n.ensures in
-    inverse_stands 2 above_one product four_product inverse tt _ _ _ (c.from-number.ensures ∙ c.invert.ensures.0) a.is a.below (omega arith)
+    let a = c.to_number-n.ensures in
+    inverse_stands 2 above_one product four_product inverse tt _ _ _ (c.from_number.ensures ∙ c.invert.ensures.0) a.is a.below (omega arith)

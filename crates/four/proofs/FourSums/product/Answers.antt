@@ -5,6 +5,6 @@ use Rattle.four.proofs.FourSums.product.Goals as goal
 
 pub returns : goal.returns
 returns c =
-    let a = c.to-number.ensures in
-    let b = c.to-number-2.ensures in
-    product_stands 2 above_one product four_product _ _ _ _ _ (c.from-number.ensures ∙ c.multiply.ensures.0) a.is b.is a.below b.below
+    let a = c.to_number.ensures in
+    let b = c.to_number-2.ensures in
+    product_stands 2 above_one product four_product _ _ _ _ _ (c.from_number.ensures ∙ c.multiply.ensures.0) a.is b.is a.below b.below

@@ -4,4 +4,4 @@ use Rattle.four.specs.Four.{above_one, product, four_product}
 use Rattle.four.proofs.FourSums.sum.Goals as goal
 
 pub returns : goal.returns
-returns c = sum_stands 2 above_one product four_product _ _ _ _ _ (c.from-number.ensures ∙ c.add.ensures) c.to-number.ensures.is c.to-number-2.ensures.is
+returns c = sum_stands 2 above_one product four_product _ _ _ _ _ (c.from_number.ensures ∙ c.add.ensures) c.to_number.ensures.is c.to_number-2.ensures.is

@@ -8,4 +8,4 @@ pub inverse-requires : goal.inverse-requires
 inverse-requires c = (prime_65537, (omega arith, omega arith))
 
 pub returns-else-n-eq0 : goal.returns-else-n-eq0
-returns-else-n-eq0 c = stands_one 65537 above_one c.to-number-n.ensures c.from-number.ensures c.inverse.ensures.1
+returns-else-n-eq0 c = stands_one 65537 above_one c.to_number-n.ensures c.from_number.ensures c.inverse.ensures.1

@@ -4,4 +4,4 @@ use Rattle.prime.proofs.Values.{stands_2}
 use Rattle.prime.proofs.words.WordsSums.product.Goals as goal
 
 pub returns : goal.returns
-returns c = stands_2 65537 above_one c.to-number.ensures c.to-number-2.ensures ◌*◌ c.from-number.ensures c.product.ensures
+returns c = stands_2 65537 above_one c.to_number.ensures c.to_number-2.ensures ◌*◌ c.from_number.ensures c.product.ensures

@@ -1,6 +1,0 @@
-use Rattle.std.proofs.Common.{length}
-use Rattle.bytes.proofs.Steps.{Listed}
-use Rattle.bytes.proofs.list_doublings.Given as goal
-
-abbrev pub invariant-loop-double : goal.invariant-loop-double
-invariant-loop-double l = Listed (length l.initial.doubles) l.a l.double-index l.d l.doubles

@@ -1,7 +1,0 @@
-use Rattle.std.proofs.Common.{◌≡◌, ◌-◌}
-use Rattle.bytes.specs.Product.{squares}
-use Rattle.bytes.proofs.squares.Given as goal
-
--- what the turns left make of the two is what all make of a and 1
-abbrev pub invariant-loop : goal.invariant-loop
-invariant-loop l = squares (l.count - l.counter) l.square l.found ≡ squares l.count l.a 1

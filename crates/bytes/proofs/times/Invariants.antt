@@ -1,5 +1,0 @@
-use Rattle.bytes.proofs.Steps.{Added}
-use Rattle.bytes.proofs.times.Given as goal
-
-abbrev pub invariant-loop-k : goal.invariant-loop-k
-invariant-loop-k l = Added l.doubles l.b l.k l.sum l.rest
