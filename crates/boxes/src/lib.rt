@@ -1,4 +1,6 @@
 // The rows and the data boxes of a cabinet, as the layers above go over them.
+#![tactic(auto)]
+
 mod kinds;
 mod rows;
 

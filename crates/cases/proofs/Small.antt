@@ -1,5 +1,5 @@
 -- Lost columns of the small file, from the halves. Assumes nothing.
-use Rattle.std.proofs.Common.{◌≡◌, ℕ, zero, suc, ◌<◌, List, [], ◌∷◌, refl, arith, lit<, lit≤}
+use Rattle.std.proofs.Common.{ℕ, zero, suc, ◌<◌, [], ◌∷◌, refl, arith, lit<, lit≤}
 use Rattle.field.specs.Below.{same_below}
 use Rattle.code.specs.Codes.{full}
 use Rattle.code.proofs.Theory.{recovered_given, proper}

@@ -1,5 +1,5 @@
 -- Cases of the code worked out by hand, against its definitions. Assumes nothing.
-use Rattle.std.specs.Prelude.{◌≡◌, ℕ, zero, suc, ◌+◌, ◌-◌, ◌*◌, ◌^◌, ◌<◌, List, [], ◌∷◌, ◌++◌, replicate, slice_index, slice_set}
+use Rattle.std.specs.Prelude.{◌≡◌, ℕ, zero, suc, ◌+◌, ◌-◌, ◌*◌, ◌^◌, List, [], ◌∷◌, ◌++◌, replicate, slice_index, slice_set}
 use Rattle.std.proofs.Common.{lit<}
 use Rattle.field.specs.Below.{Below}
 use Rattle.field.specs.Numbers.{residue}

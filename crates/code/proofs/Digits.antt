@@ -1,6 +1,6 @@
 -- Rows with binary digits: each digit can be read and be set by itself. And the natural numbers as such rows.
 -- Assumes nothing.
-use Rattle.std.proofs.Common.{◌≡◌, ℕ, zero, suc, ◌+◌, ◌-◌, ◌*◌, ◌/◌, ◌%◌, ◌^◌, ◌<◌, Bool, true, false, ◌≢◌, sym, refl, ap, ◌∙◌, subst, ap₂, subst₂, pow-suc, arith}
+use Rattle.std.proofs.Common.{◌≡◌, ℕ, zero, suc, ◌+◌, ◌*◌, ◌/◌, ◌%◌, ◌^◌, ◌<◌, Bool, true, false, ◌≢◌, sym, refl, ap, ◌∙◌, subst, ap₂, subst₂, pow-suc, arith}
 use mathlib.Core.Path.{fun_ext}
 use Rattle.code.specs.Rows.{odd, digit, partner}
 use native.Mathlib.Nat.{div-div-eq-div-mul, pow-succ'}

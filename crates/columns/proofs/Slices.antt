@@ -1,12 +1,12 @@
 -- What a slice's symbols stand for, as loops read and write them. Assumes nothing.
-use Rattle.std.proofs.Common.{◌≡◌, ℕ, zero, suc, ◌+◌, ◌-◌, ◌*◌, ◌^◌, ◌<◌, ◌≤◌, ◌≢◌, List, [], ◌∷◌, map, length, get_or, take, drop, set, sym, refl, ap, ◌∙◌, subst, inl, inr, arith, length-set, get_or-set_other, get_or-set_same}
+use Rattle.std.proofs.Common.{◌≡◌, ℕ, zero, suc, ◌+◌, ◌*◌, ◌^◌, ◌<◌, ◌≤◌, ◌≢◌, List, [], ◌∷◌, map, length, get_or, take, drop, set, sym, refl, ap, ◌∙◌, subst, inl, inr, arith, length-set, get_or-set_other, get_or-set_same}
 use lib.ListN.{length-map}
 use lib.Seq.{map-set}
 use Rattle.std.proofs.lemmas.List.{get_or-map, get_or-take, get_or-drop}
 use Rattle.std.proofs.lemmas.Bool.{cases_eq}
 use Rattle.field.specs.Symbols.{Symbols}
 use Rattle.code.specs.Contents.{at, parts}
-use Rattle.code.specs.Rows.{digit, lower, pair_of}
+use Rattle.code.specs.Rows.{lower, pair_of}
 use Rattle.code.proofs.Pairing.{row_cases, pair_lower, pair_upper}
 
 map_take : {X Z : Type 0} (f : X → Z) (n : ℕ) (xs : List X) → map f (take n xs) ≡ take n (map f xs)

@@ -1,4 +1,4 @@
-use Rattle.std.proofs.Common.{◌≡◌, sym, ap, ◌∙◌, ap₂}
+use Rattle.std.proofs.Common.{sym, ap, ◌∙◌, ap₂}
 use Rattle.code.specs.Blocks.{◌∸◌}
 use Rattle.code.specs.Codes.{full}
 use Rattle.code.proofs.Theory.{recovered_given, proper, gap}
