@@ -1,2 +1,1 @@
 pub mod Slices
-pub mod Weights

@@ -1,5 +1,5 @@
 -- What a step of the decoding does to a file, and what the steps lead to. Assumes nothing.
-use Rattle.std.specs.Prelude.{◌≡◌, ℕ, ◌^◌, ◌<◌, ◌≢◌}
+use Rattle.std.specs.Prelude.{◌≡◌, ℕ, ◌<◌, ◌≢◌}
 use Rattle.code.specs.Codes.{Code, Alike, parity1, parity2, data_boxes}
 
 -- the file g is the file f but for the column x, whose first n rows hold C

@@ -1,4 +1,4 @@
-use Rattle.std.proofs.Common.{◌≡◌, sym, ap, ◌∙◌}
+use Rattle.std.proofs.Common.{sym, ap, ◌∙◌}
 use Rattle.code.specs.Blocks.{◌∸◌}
 use Rattle.code.specs.Decoding.{unit}
 use Rattle.solving.proofs.matrix.undo_shift.Goals as goal
