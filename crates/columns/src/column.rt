@@ -4,10 +4,10 @@ ghost use Rattle.code.specs.Blocks.{half as halved};
 ghost use Rattle.code.specs.Codes.{full, half_for, image};
 ghost use Rattle.code.specs.Contents.{Holds, added, at};
 ghost use Rattle.refusal.specs.Refusals.{earliest as first, few_marks, no_box, parity_box, refusal, wrong_lengths, wrong_size};
-ghost use Rattle.boxes.specs.Sizes.{Sized};
+ghost use Rattle.columns.specs.Sizes.{Sized};
 
-use crate::sized::{data_box, power, rows_of_pair, shift_at};
-use boxes::{KINDS, kind_at};
+use crate::boxes::{KINDS, data_box, kind_at, shift_at};
+use crate::rows::{power, rows_of_pair};
 use code::{Kind, block};
 use field::Sums;
 use refusal::{Refusal, earliest, few_marks, outside, sized, wrong_lengths};
@@ -45,7 +45,6 @@ pub(crate) fn half_of_pair<F: Sums>(kind: Kind, s: F, t: F) -> F
 // Adds the image of the column of the data box in place b, pair by pair.
 pub(crate) fn add_pairs<F: Sums>(m: usize, b: usize, sum: &mut [F], column: &[F])
     requires sized { Sized F.symbols m }
-    requires inside { b < 3 * m }
     requires sums { length sum.old ≡ 2 ^ m }
     requires rows { length column.now ≡ 2 ^ m }
     ensures { Holds F.symbols F.value (2 ^ m) sum.new (added F.symbols (at F.symbols F.value sum.old) (image (full F.symbols m) b (at F.symbols F.value column.now))) }

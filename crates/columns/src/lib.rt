@@ -2,12 +2,14 @@
 // columns of a file, and a lost column from the halves of the others.
 #![tactic(auto)]
 
+mod boxes;
 mod column;
 mod parity;
 mod recovery;
 mod rows;
-mod sized;
+mod single;
 
 pub use column::{add_column, add_image, half};
-pub use parity::{first_parity, parities, second_parity};
+pub use parity::parities;
 pub use recovery::restore;
+pub use single::{first_parity, second_parity};

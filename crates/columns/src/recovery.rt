@@ -6,11 +6,10 @@ ghost use Rattle.code.specs.Contents.{Holds, at, parts};
 ghost use Rattle.code.specs.Recovery.{eigenvalue as eigen, half_image, lost_half, lost_image, recover as recovering, recovered, seat as seated};
 ghost use Rattle.refusal.specs.Refusals.{earliest as first, few_marks, no_box, parity_box, refusal, wrong_lengths, wrong_size};
 ghost use Rattle.code.specs.Rows.{digit, lower, odd, pair_of};
-ghost use Rattle.boxes.specs.Sizes.{Sized};
+ghost use Rattle.columns.specs.Sizes.{Sized};
 
-use crate::rows::{is_upper, partner_pairs};
-use crate::sized::{data_box, power, rows_of_pair, shift_at};
-use boxes::{DataBox, KINDS, kind_at};
+use crate::boxes::{DataBox, KINDS, data_box, kind_at, shift_at};
+use crate::rows::{is_upper, partner_pairs, power, rows_of_pair};
 use code::{Kind, block};
 use field::{Quotients, Sums};
 use refusal::{Refusal, earliest, few_marks, outside, sized, wrong_lengths};
@@ -45,7 +44,6 @@ fn block_at<F: Sums>(kind: Kind, p: F, q: F, s: F, t: F, upper: bool) -> F
 // since the half has a number for each row with digit 0 in the lost direction.
 fn image_across<F: Sums>(m: usize, x: usize, b: usize, half: &[F], j: usize) -> F
     requires sized { Sized F.symbols m }
-    requires inside { b < 3 * m }
     requires pairs { length half.now ≡ 2 ^ (m - 1) }
     requires pair { j < 2 ^ (m - 1) }
     ensures { F.value result ≡ image (full F.symbols m) b (λ a. at F.symbols F.value half.now (pair_of (m - (x % m + 1)) a)) (lower (m - (x % m + 1)) j) }
@@ -67,7 +65,6 @@ fn image_across<F: Sums>(m: usize, x: usize, b: usize, half: &[F], j: usize) -> 
 // The half of the image of box b's column, from the half of the column.
 fn half_of_image<F: Sums>(m: usize, x: usize, b: usize, half: &[F], j: usize) -> F
     requires sized { Sized F.symbols m }
-    requires inside { b < 3 * m }
     requires pairs { length half.now ≡ 2 ^ (m - 1) }
     requires pair { j < 2 ^ (m - 1) }
     ensures { F.value result ≡ half_image (full F.symbols m) x b (at F.symbols F.value half.now) j }
@@ -91,7 +88,6 @@ fn subtract_half<F: Sums>(
     left: (F, F),
 ) -> (F, F)
     requires sized { Sized F.symbols m }
-    requires inside { b < 3 * m }
     requires pairs { length half.now ≡ 2 ^ (m - 1) }
     requires pair { j < 2 ^ (m - 1) }
     ensures first { F.value result.0 ≡ ◌∸◌ F.symbols.ring (F.value left.0) (at F.symbols F.value half.now j) }

@@ -1,8 +1,31 @@
 // Rows by their binary digits; k is the place of a digit, so that its weight is 2^k.
 ghost use Rattle.std.specs.Prelude.{◌≡◌, ℕ, ◌+◌, ◌-◌, ◌^◌, ◌<◌, ◌≤◌, true, false};
-ghost use Rattle.code.specs.Rows.{digit, odd, pair_of, partner};
+ghost use Rattle.code.specs.Rows.{digit, lower, odd, pair_of, partner};
 
-use crate::sized::power;
+pub(crate) fn power(k: usize) -> usize
+    requires { k ≤ 6 }
+    ensures value { result ≡ 2 ^ k }
+    ensures bound { result ≤ 64 }
+    ensures positive { 1 ≤ result }
+{
+    1 << k
+}
+
+// The two rows of pair j among the rows of m digits, the lower first.
+pub(crate) fn rows_of_pair(m: usize, k: usize, j: usize) -> (usize, usize)
+    requires size { m ≤ 6 }
+    requires digit { k < m }
+    requires pair { j < 2 ^ (m - 1) }
+    ensures low { result.0 ≡ lower k j }
+    ensures high { result.1 ≡ lower k j + 2 ^ k }
+    ensures rising { result.0 < result.1 }
+    ensures bound { result.1 < 2 ^ m }
+{
+    let weight = power(k);
+    // The digits of j from k up move one place up: its high part is added once more.
+    let low = j + (j - j % weight);
+    (low, low + weight)
+}
 
 pub(crate) fn is_upper(k: usize, row: usize) -> bool
     requires { k ≤ 6 }

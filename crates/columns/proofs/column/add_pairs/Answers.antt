@@ -4,7 +4,7 @@ use Rattle.code.specs.Contents.{at}
 use Rattle.code.specs.Rows.{lower, pair_of}
 use Rattle.code.proofs.Images.{image_at_low, image_at_high}
 use Rattle.code.proofs.Pairing.{pair_lower, pair_upper, pair_below}
-use Rattle.boxes.proofs.Weights.{shift_less}
+use Rattle.columns.proofs.Weights.{shift_less}
 use Rattle.columns.proofs.Slices.{pairwise_more, read, written_else}
 use Rattle.columns.proofs.column.add_pairs.Goals as goal
 

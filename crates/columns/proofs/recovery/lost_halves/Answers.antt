@@ -5,7 +5,7 @@ use Rattle.code.specs.Recovery.{seat, half_image}
 use Rattle.code.proofs.Seats.{seat_above}
 use Rattle.columns.proofs.Slices.{read}
 use Rattle.code.proofs.Theory.{less_none, less_more}
-use Rattle.boxes.proofs.Weights.{part_fits}
+use Rattle.columns.proofs.Weights.{part_fits}
 use Rattle.columns.proofs.recovery.lost_halves.Goals as goal
 
 -- part h of the 3m + 1 halves has a number j

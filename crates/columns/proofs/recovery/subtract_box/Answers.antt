@@ -7,7 +7,7 @@ use Rattle.code.specs.Recovery.{seat}
 use Rattle.code.proofs.Seats.{seat_most}
 use Rattle.columns.proofs.Slices.{part}
 use Rattle.code.proofs.Theory.{half_image_same, less_none}
-use Rattle.boxes.proofs.Weights.{part_fits, shift_less}
+use Rattle.columns.proofs.Weights.{part_fits, shift_less}
 use Rattle.columns.proofs.recovery.subtract_box.Goals as goal
 
 pub returns-then-b-x : goal.returns-then-b-x

@@ -5,7 +5,7 @@ use Rattle.code.specs.Recovery.{recover, recovered}
 use Rattle.code.specs.Rows.{odd, digit, lower, pair_of}
 use Rattle.code.proofs.Pairing.{pair_lower, pair_upper, pair_below, digit_lower, digit_upper}
 use Rattle.columns.proofs.Slices.{pairwise_more}
-use Rattle.boxes.proofs.Weights.{shift_less}
+use Rattle.columns.proofs.Weights.{shift_less}
 use Rattle.columns.proofs.recovery.write_pairs.Goals as goal
 
 pub loop-j-preserved : goal.loop-j-preserved

@@ -1,4 +1,4 @@
-use Rattle.boxes.proofs.Weights.{weight_most}
+use Rattle.columns.proofs.Weights.{weight_most}
 use Rattle.columns.proofs.rows.lower_partner.Goals as goal
 
 pub overflow_sub-result : goal.overflow_sub-result

@@ -1,7 +1,7 @@
 use Rattle.std.proofs.Common.{◌≡◌, ℕ, ◌^◌, ◌<◌}
 use Rattle.code.specs.Codes.{full, sum, image}
 use Rattle.code.specs.Contents.{at, parts}
-use Rattle.columns.proofs.parity.sum_images.Given as goal
+use Rattle.columns.proofs.single.sum_images.Given as goal
 
 -- the sums over the boxes below b
 abbrev pub invariant-loop-b : goal.invariant-loop-b

@@ -1,0 +1,49 @@
+use Rattle.std.proofs.Common.{◌≡◌, ◌+◌, ◌-◌, ◌*◌, ◌^◌, ◌≤◌, length, sym, ap, ◌∙◌, ap₂, arith, rules}
+use Rattle.code.specs.Codes.{full, image}
+use Rattle.code.specs.Contents.{parts}
+use Rattle.code.proofs.Images.{image_same}
+use Rattle.columns.proofs.Slices.{part}
+use Rattle.code.proofs.Sums.{sum_more, sum_all}
+use Rattle.columns.proofs.Weights.{part_fits, shift_less}
+use Rattle.columns.proofs.parity.add_columns.Goals as goal
+
+pub offset_bounds-file-b : goal.offset_bounds-file-b
+offset_bounds-file-b g c =
+    let rows = c.power-rows.result in
+    let e : length c.args.file.now ≡ 3 * c.args.m * rows = c.requires.whole ∙ ap (λ r. 3 * c.args.m * r) (sym c.power-rows.ensures.value) in
+    omega (arith, part_fits c.loop-b.b (3 * c.args.m) rows c.loop-b-test.true)
+
+pub slice_bounds-column-end : goal.slice_bounds-column-end
+slice_bounds-column-end g c =
+    let rows = c.power-rows.result in
+    let e : length c.args.file.now ≡ 3 * c.args.m * rows = c.requires.whole ∙ ap (λ r. 3 * c.args.m * r) (sym c.power-rows.ensures.value) in
+    let h : c.loop-b.b * rows + rows ≤ length c.args.file.now = omega (arith, part_fits c.loop-b.b (3 * c.args.m) rows c.loop-b-test.true) in
+    search rules
+
+pub loop-b-preserved : goal.loop-b-preserved
+loop-b-preserved g c =
+    let Y = g.F.Sums.symbols in
+    let v = g.F.Sums.value in
+    let m = c.args.m in
+    let b = c.loop-b.b in
+    let rows = c.power-rows.result in
+    let file = c.args.file.now in
+    let is : rows ≡ 2 ^ m = c.power-rows.ensures.value in
+    let column = part Y v file (2 ^ m) b (b * rows) (b * rows + rows - b * rows) (ap (λ r. b * r) is) (omega arith) in (
+      λ a l.
+          c.add_rows.ensures a (omega arith) ∙ ap₂ Y.ring.plus (c.loop-b.invariant.0 a l) (column a l) ∙ sym (sum_more Y.ring b (λ b. parts Y v (2 ^ m) file b a)),
+      λ a l.
+          c.add_pairs.ensures a l
+          ∙ ap₂ Y.ring.plus (c.loop-b.invariant.1 a l) (image_same (full Y m) b _ (parts Y v (2 ^ m) file b) (shift_less m b c.requires.sized.some) column a l)
+          ∙ sym (sum_more Y.ring b (λ b. image (full Y m) b (parts Y v (2 ^ m) file b) a)),
+    )
+
+pub returns : goal.returns
+returns g c =
+    let Y = g.F.Sums.symbols in
+    let m = c.args.m in
+    let file = parts Y g.F.Sums.value (2 ^ m) c.args.file.now in
+    record {
+      first = λ a l. c.loop-b.invariant.0 a l ∙ sum_all Y.ring (3 * m) c.loop-b.b (λ b. file b a) c.loop-b-test.false c.loop-b.auto.b-end;
+      second = λ a l. c.loop-b.invariant.1 a l ∙ sum_all Y.ring (3 * m) c.loop-b.b (λ b. image (full Y m) b (file b) a) c.loop-b-test.false c.loop-b.auto.b-end;
+    }
