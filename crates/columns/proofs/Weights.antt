@@ -31,3 +31,9 @@ shift_less m b h = omega arith
 -- part b of n parts of r ends within them
 pub part_fits : (b n r : ℕ) → b < n → b * r + r ≤ n * r
 part_fits b n r h = let t : suc b * r ≤ n * r = mul-le-mul_right r h in let u : suc b * r ≡ b * r + r = suc-mul b r in omega arith
+
+-- part b of a file, 3m columns of 2 ^ m symbols, ends within it
+pub file_part : (m b rows n : ℕ) → n ≡ 3 * m * 2 ^ m → rows ≡ 2 ^ m → b < 3 * m → b * rows + rows ≤ n
+file_part m b rows n whole is h =
+    let e : n ≡ 3 * m * rows = whole ∙ ap (λ r. 3 * m * r) (sym is) in
+    omega (arith, part_fits b (3 * m) rows h)

@@ -2,20 +2,15 @@ use Rattle.std.proofs.Common.{◌≡◌, ◌+◌, ◌-◌, ◌*◌, ◌^◌, ◌
 use Rattle.code.specs.Contents.{parts}
 use Rattle.columns.proofs.Slices.{part}
 use Rattle.code.proofs.Sums.{sum_more, sum_all}
-use Rattle.columns.proofs.Weights.{part_fits}
+use Rattle.columns.proofs.Weights.{file_part}
 use Rattle.columns.proofs.single.sum_columns.Goals as goal
 
 pub offset_bounds-file-b : goal.offset_bounds-file-b
-offset_bounds-file-b g c =
-    let rows = c.power-rows.result in
-    let e : length c.args.file.now ≡ 3 * c.args.m * rows = c.requires.whole ∙ ap (λ r. 3 * c.args.m * r) (sym c.power-rows.ensures.value) in
-    omega (arith, part_fits c.loop-b.b (3 * c.args.m) rows c.loop-b-test.true)
+offset_bounds-file-b g c = omega (arith, file_part c.args.m c.loop-b.b c.power-rows.result (length c.args.file.now) c.requires.whole c.power-rows.ensures.value c.loop-b-test.true)
 
 pub slice_bounds-add_rows-end : goal.slice_bounds-add_rows-end
 slice_bounds-add_rows-end g c =
-    let rows = c.power-rows.result in
-    let e : length c.args.file.now ≡ 3 * c.args.m * rows = c.requires.whole ∙ ap (λ r. 3 * c.args.m * r) (sym c.power-rows.ensures.value) in
-    let h : c.loop-b.b * rows + rows ≤ length c.args.file.now = omega (arith, part_fits c.loop-b.b (3 * c.args.m) rows c.loop-b-test.true) in
+    let h : c.loop-b.b * c.power-rows.result + c.power-rows.result ≤ length c.args.file.now = file_part c.args.m c.loop-b.b c.power-rows.result (length c.args.file.now) c.requires.whole c.power-rows.ensures.value c.loop-b-test.true in
     search rules
 
 pub loop-b-preserved : goal.loop-b-preserved
