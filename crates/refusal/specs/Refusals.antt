@@ -1,5 +1,6 @@
 -- Why a call is declined. Assumes nothing.
-use Rattle.std.specs.Prelude.{ℕ, ◌*◌, Bool, false, cond, not, ◌||◌, List, [], ◌∷◌, Some, None, Ok, Err, Option, Result, ◌==◌, nat_lt}
+use Rattle.std.specs.Prelude.{ℕ, ◌*◌, Bool, not, ◌||◌, List, [], ◌∷◌, Some, None, Ok, Err, Option, Result, ◌==◌, if◌then◌else◌, nat_lt}
+use Rattle.std.specs.List.{list_any}
 use Rattle.field.specs.Symbols.{Symbols}
 use Rattle.refusal.specs.declared.Refusal.{Refusal}
 use Rattle.refusal.specs.declared.Refusal.TheVariants.{Size, Marks, Length, NoBox, Parity}
@@ -12,38 +13,42 @@ number Length = 5
 number NoBox = 6
 number Parity = 11
 
--- a reason: whether it fits, and the refusal
+-- a reason: the refusal, where it fits
 abbrev pub Reason : Type 0
-Reason = Bool × Refusal
+Reason = Option Refusal
 
 -- the refusal of the first reason that fits
 abbrev pub earliest : List Reason → Option Refusal
 earliest [] = None
-earliest (r ∷ rs) = cond r.0 (Some r.1) (earliest rs)
+earliest (None ∷ rs) = earliest rs
+earliest (Some why ∷ rs) = Some why
 
 -- the refusal that an answer is, if it is one
 abbrev pub refusal : {A : Type 0} → Result A Refusal → Option Refusal
 refusal (Ok x) = None
-refusal (Err e) = Some e
+refusal (Err why) = Some why
+
+-- a refusal that fits where the test holds
+abbrev pub where_holds : Bool → Refusal → Reason
+where_holds fits why = if fits then Some why else None
 
 abbrev pub wrong_size : ℕ → Reason
-wrong_size m = (nat_lt m 1 || nat_lt 6 m, Size)
+wrong_size m = where_holds (nat_lt m 1 || nat_lt 6 m) Size
 
 abbrev pub few_marks : Symbols → ℕ → Reason
-few_marks Y m = (nat_lt Y.marks (2 * m), Marks)
+few_marks Y m = where_holds (nat_lt Y.marks (2 * m)) Marks
 
 -- of some buffers' lengths, each beside the length that it should be, one is wrong
 abbrev pub any_wrong : List (ℕ × ℕ) → Bool
-any_wrong [] = false
-any_wrong (p ∷ ps) = not (p.0 == p.1) || any_wrong ps
+any_wrong = list_any (λ p. not (p.0 == p.1))
 
 abbrev pub wrong_lengths : List (ℕ × ℕ) → Reason
-wrong_lengths ps = (any_wrong ps, Length)
+wrong_lengths ps = where_holds (any_wrong ps) Length
 
 -- a box outside 1 to n
 abbrev pub no_box : ℕ → ℕ → Reason
-no_box n b = (nat_lt b 1 || nat_lt n b, NoBox)
+no_box n b = where_holds (nat_lt b 1 || nat_lt n b) NoBox
 
 -- not one of the data boxes 1 to n
 abbrev pub parity_box : ℕ → ℕ → Reason
-parity_box n b = (nat_lt n b, Parity)
+parity_box n b = where_holds (nat_lt n b) Parity

@@ -1,12 +1,14 @@
 // Why a call is declined.
 #![tactic(auto)]
 
-ghost use Rattle.std.specs.Prelude.{◌≡◌, ℕ, ◌*◌, ◌≤◌, not, ◌||◌, [], ◌∷◌, nat_lt};
-ghost use Rattle.refusal.specs.Refusals.{any_wrong, earliest as first, number as number_of, refusal, wrong_size};
+ghost use Rattle.std.specs.Prelude.{◌≡◌, ℕ, ◌*◌, ◌≤◌, ◌<◌};
+ghost use Rattle.refusal.specs.Refusals.{any_wrong, earliest as first, few_marks, no_box, number as number_of, parity_box, refusal, wrong_lengths, wrong_size};
 
 use field::Sums;
+use std::error::Error;
+use std::fmt;
 
-#[derive(Clone, Copy)]
+#[derive(Clone, Copy, Debug, PartialEq, Eq)]
 pub enum Refusal {
     // m is outside 1 to 6.
     Size,
@@ -35,66 +37,85 @@ impl Refusal {
     }
 }
 
-fn first_that_fits(reasons: &[(bool, Refusal)]) -> Option<Refusal>
-    ensures { result ≡ first reasons.now }
-{
-    for (fits, why) in reasons {
-        if *fits {
-            return Some(*why);
-        }
+impl fmt::Display for Refusal {
+    fn fmt<W: fmt::Write>(&self, f: &mut fmt::Formatter<W>) -> fmt::Result {
+        f.write_str(match self {
+            Refusal::Size => "the size is outside 1 to 6",
+            Refusal::Marks => "the field has too few marks",
+            Refusal::Length => "a buffer has the wrong length",
+            Refusal::NoBox => "there is no box of that number",
+            Refusal::Parity => "the box is a parity box",
+        })
     }
-    None
 }
 
-// Declines by the earliest reason that fits, if one does.
-pub fn earliest(reasons: &[(bool, Refusal)]) -> Result<(), Refusal>
+impl Error for Refusal {}
+
+// Declines by the earliest of the reasons that are there.
+pub fn earliest(reasons: &[Option<Refusal>]) -> Result<(), Refusal>
     ensures { refusal result ≡ first reasons.now }
 {
-    match first_that_fits(reasons) {
-        Some(why) => Err(why),
-        None => Ok(()),
+    for reason in reasons {
+        if let Some(why) = reason {
+            return Err(*why);
+        }
     }
+    Ok(())
 }
 
 // Refuses a size outside 1 to 6.
 pub fn sized(m: usize) -> Result<(), Refusal>
-    ensures { refusal result ≡ first (wrong_size m ∷ []) }
+    ensures { refusal result ≡ wrong_size m }
 {
     if m < 1 || 6 < m {
-        Err(Refusal::Size)
-    } else {
-        Ok(())
+        return Err(Refusal::Size);
     }
+    Ok(())
 }
 
-// Does the field have fewer than 2m marks?
-pub fn few_marks<F: Sums>(m: usize) -> bool
-    ensures { result ≡ nat_lt F.symbols.marks (2 * m) }
+// Refuses a size for which the field has too few marks.
+pub fn marked<F: Sums>(m: usize) -> Result<(), Refusal>
+    ensures { refusal result ≡ few_marks F.symbols m }
 {
-    (F::mark_count() as usize) / 2 < m
-}
-
-fn all_right(lengths: &[(usize, usize)]) -> bool
-    ensures { result ≡ not (any_wrong lengths.now) }
-{
-    for (length, wanted) in lengths {
-        if *length != *wanted {
-            return false;
-        }
+    if (F::mark_count() as usize) / 2 < m {
+        return Err(Refusal::Marks);
     }
-    true
+    Ok(())
 }
 
-// Lengths of buffers, each beside the length that it should be: is one wrong?
-pub fn wrong_lengths(lengths: &[(usize, usize)]) -> bool
+// Is one of the lengths not the one that it should be?
+fn one_wrong(lengths: &[(usize, usize)]) -> bool
     ensures { result ≡ any_wrong lengths.now }
 {
-    !all_right(lengths)
+    lengths.iter().any(|(length, wanted)| length != wanted)
 }
 
-// Is b none of the boxes 1 to n?
-pub fn outside(n: usize, b: usize) -> bool
-    ensures { result ≡ (nat_lt b 1 || nat_lt n b) }
+// Refuses the lengths of buffers, each beside the length that it should be, if one is wrong.
+pub fn fitting(lengths: &[(usize, usize)]) -> Result<(), Refusal>
+    ensures { refusal result ≡ wrong_lengths lengths.now }
 {
-    b < 1 || n < b
+    if one_wrong(lengths) {
+        return Err(Refusal::Length);
+    }
+    Ok(())
+}
+
+// Refuses a box that is none of the boxes 1 to n.
+pub fn numbered(n: usize, b: usize) -> Result<(), Refusal>
+    ensures { refusal result ≡ no_box n b }
+{
+    if b < 1 || n < b {
+        return Err(Refusal::NoBox);
+    }
+    Ok(())
+}
+
+// Refuses a box that is none of the n data boxes.
+pub fn holding_data(n: usize, b: usize) -> Result<(), Refusal>
+    ensures { refusal result ≡ parity_box n b }
+{
+    if n < b {
+        return Err(Refusal::Parity);
+    }
+    Ok(())
 }
