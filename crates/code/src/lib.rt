@@ -1,48 +1,49 @@
 // The array code: its definitions, its blocks, and what is proved of it.
 #![tactic(auto)]
 
-ghost use Rattle.std.specs.Prelude.{◌≡◌, true, false};
-ghost use Rattle.code.specs.Blocks.{Eigen, block as blocked};
+ghost use Rattle.std.specs.Prelude.{◌≡◌};
+ghost use Rattle.code.specs.Blocks.{half as halved, kind_of};
 ghost use Rattle.code.specs.Codes.{Renews};
 ghost use Rattle.code.specs.Rows.{Paired};
 
+mod block;
+
+pub use block::Block;
 use field::{Quotients, Sums};
 
 // A data box is of one of three kinds, numbered from 0 and named by the half
 // of a pair that helpers send for a lost box of the kind.
-#[derive(Clone, Copy)]
+#[derive(Clone, Copy, Debug, PartialEq, Eq)]
 pub enum Kind {
     Lower,
     Upper,
     Sum,
 }
 
-// Both rows of a block, by kind.
-fn rows_of_block<F: Sums>(kind: Kind, p: F, q: F, s: F, t: F) -> (F, F)
-    ensures lower { F.value result.0 ≡ blocked F.symbols.ring kind (F.value p) (F.value q) (F.value s) (F.value t) false }
-    ensures upper { F.value result.1 ≡ blocked F.symbols.ring kind (F.value p) (F.value q) (F.value s) (F.value t) true }
-{
-    match kind {
-        Kind::Lower => (
-            q.product(s).sum(q.sum(p.negative()).product(t)),
-            p.product(t),
-        ),
-        Kind::Upper => (
-            q.product(s),
-            p.sum(q.negative()).product(s).sum(p.product(t)),
-        ),
-        Kind::Sum => (p.product(s), q.product(t)),
+// The kind of a number; from 2 on it is the last.
+impl From<usize> for Kind {
+    ghost from_gives = { λ n kind. kind ≡ kind_of n };
+
+    fn from(n: usize) -> Kind {
+        match n {
+            0 => Kind::Lower,
+            1 => Kind::Upper,
+            _ => Kind::Sum,
+        }
     }
 }
 
-// What the block of a kind makes of s in the lower and t in the upper row. It
-// is the code's block, since it has the eigenvalues of the construction.
-pub fn block<F: Sums>(kind: Kind, p: F, q: F, s: F, t: F) -> (F, F)
-    ensures lower { F.value result.0 ≡ blocked F.symbols.ring kind (F.value p) (F.value q) (F.value s) (F.value t) false }
-    ensures upper { F.value result.1 ≡ blocked F.symbols.ring kind (F.value p) (F.value q) (F.value s) (F.value t) true }
-    ensures eigen { Eigen F.symbols.ring kind (F.value p) (F.value q) (F.value s) (F.value t) (F.value result.0) (F.value result.1) }
-{
-    rows_of_block(kind, p, q, s, t)
+impl Kind {
+    // The half of a pair for a lost box of the kind.
+    pub fn half<F: Sums>(self, s: F, t: F) -> F
+        ensures { F.value result ≡ halved F.symbols.ring self (F.value s) (F.value t) }
+    {
+        match self {
+            Kind::Lower => s,
+            Kind::Upper => t,
+            Kind::Sum => s.sum(t),
+        }
+    }
 }
 
 // A theorem of every field with quotients, every size, at most three kinds and
