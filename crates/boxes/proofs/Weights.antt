@@ -6,11 +6,17 @@ use Rattle.code.specs.Rows.{lower}
 use Rattle.code.proofs.Pairing.{upper_below}
 use Rattle.boxes.specs.Pairs.{RowsOfPair}
 
-pub power_most : (k : ℕ) → k ≤ 6 → 2 ^ k ≤ 64
-power_most k h = pow_mono h
+-- 2 ^ k as the program makes it, for a small k
+pub power_exact : (k : ℕ) → k ≤ 6 → 1 * 2 ^ (k % 64) % 18446744073709551616 ≡ 2 ^ k
+power_exact k h =
+    let same : 2 ^ (k % 64) ≡ 2 ^ k = ap (λ n. 2 ^ n) (omega arith) in
+    let most : 2 ^ k ≤ 64 = pow_mono h in
+    omega arith
 
-pub shifted_one : (k : ℕ) → k ≤ 6 → 1 * 2 ^ k % 18446744073709551616 ≡ 2 ^ k
-shifted_one k h = let b : 2 ^ k ≤ 64 = power_most k h in omega arith
+pub power_most : (k : ℕ) → k ≤ 6 → 1 * 2 ^ (k % 64) % 18446744073709551616 ≤ 64
+power_most k h =
+    let most : 2 ^ k ≤ 64 = pow_mono h in
+    omega (arith, power_exact k h)
 
 -- a row with an upper digit is at least as large as the digit's weight
 pub weight_most : (w a : ℕ) → a / w % 2 ≡ 1 → w ≤ a
@@ -27,17 +33,9 @@ module _ (k w : ℕ) (e : w ≡ 2 ^ k) where
       let s : 2 ^ k * (j / 2 ^ k) + j % 2 ^ k ≡ j = div-add-mod j (2 ^ k) in
       rw e (omega arith)
 
--- the power of a small exponent
-pub small_power : (k r : ℕ) → k ≤ 6 → r ≡ 2 ^ (k % 64) → r ≡ 2 ^ k
-small_power k r h e = e ∙ ap (λ n. 2 ^ n) (omega arith)
-
-pub rows_of_pair : (m k j w n : ℕ) → m ≤ 6 → k < m → n ≡ 2 ^ ((m - 1) % 64) → j < n → w ≡ 2 ^ (k % 64) → RowsOfPair m k j (j + (j - j % w)) (j + (j - j % w) + w)
-rows_of_pair m k j w n hm hk en hj ew =
-    let is : w ≡ 2 ^ k = small_power k w (omega arith) ew in
-    let all : n ≡ 2 ^ (m - 1) = small_power (m - 1) n (omega arith) en in
-    let below : j < 2 ^ (m - 1) = omega arith in
+pub rows_of_pair : (m k j w : ℕ) → m ≤ 6 → k < m → j < 2 ^ (m - 1) → w ≡ 2 ^ k → 1 ≤ w → RowsOfPair m k j (j + (j - j % w)) (j + (j - j % w) + w)
+rows_of_pair m k j w hm hk below is positive =
     let low : j + (j - j % w) ≡ lower k j = lower_is k w is j in
-    let positive : 1 ≤ w = omega (arith, is, pow_pos k) in
     record {
       size = hm;
       digit = hk;

@@ -11,6 +11,12 @@ pub record Fits (Y : Symbols) (m b : ℕ) : Type 0 where
   pub inside : b < 3 * m
   pub marks : 2 * direction (full Y m) b ≤ Y.marks
 
+-- kind and eigenvalues of the data box in place b
+pub record BlockOf {A : Type 0} (c : Code A) (b : ℕ) (u : Kind) (p q : A) : Type 0 where
+  pub is_kind : u ≡ kind c b
+  pub first : p ≡ eigen_p c b
+  pub second : q ≡ eigen_q c b
+
 -- kind, digit and eigenvalues of the data box in place b
 pub record BoxOf {A : Type 0} (c : Code A) (b : ℕ) (u : Kind) (k : ℕ) (p q : A) : Type 0 where
   pub is_kind : u ≡ kind c b

@@ -1,3 +1,2 @@
 pub mod Boxes
 pub mod Pairs
-pub mod Sizes

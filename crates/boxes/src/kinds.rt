@@ -1,37 +1,27 @@
 // What a data box does to its column.
-ghost use Rattle.std.specs.Prelude.{◌≡◌, ℕ, ◌+◌, ◌-◌, ◌*◌, ◌/◌, ◌%◌, ◌<◌, ◌≤◌, Some, None};
-ghost use Rattle.boxes.specs.Boxes.{BoxOf, Fits};
+ghost use Rattle.std.specs.Prelude.{◌≡◌, ℕ, ◌+◌, ◌-◌, ◌*◌, ◌/◌, ◌%◌, ◌<◌, ◌≤◌, MatchOption, OnSome};
+ghost use Rattle.boxes.specs.Boxes.{BlockOf, BoxOf, Fits};
 ghost use Rattle.code.specs.Blocks.{kind_of};
-ghost use Rattle.code.specs.Codes.{full};
+ghost use Rattle.code.specs.Codes.{direction, full};
 
-use code::Kind;
+use code::{Block, Kind};
 use field::Sums;
 
 // How many kinds of data boxes a cabinet has.
 pub const KINDS: usize = 3;
 
-// The kind of a data box, the place of its direction's digit, and the two
-// eigenvalues of its direction.
-#[derive(Clone, Copy)]
+// The block of a data box, and the place of its direction's digit.
+#[derive(Clone, Copy, Debug, PartialEq, Eq)]
 pub struct DataBox<F> {
-    pub kind: Kind,
+    pub block: Block<F>,
     pub shift: usize,
-    pub p: F,
-    pub q: F,
 }
 
 // The kind of the data box in place b, from 0.
 pub fn kind_at(m: usize, b: usize) -> Kind
     ensures { result ≡ kind_of (b / m) }
 {
-    if m == 0 {
-        return Kind::Lower;
-    }
-    match b / m {
-        0 => Kind::Lower,
-        1 => Kind::Upper,
-        _ => Kind::Sum,
-    }
+    if m == 0 { Kind::Lower } else { Kind::from(b / m) }
 }
 
 // The place of the digit of its direction.
@@ -41,21 +31,35 @@ pub fn shift_at(m: usize, b: usize) -> usize
     if m == 0 { 0 } else { m - (b % m + 1) }
 }
 
+// The block of the data box in place b. Absent where the field lacks the marks
+// of its direction.
+pub(crate) fn block_at<F: Sums>(m: usize, b: usize) -> Option<Block<F>>
+    requires some { 1 ≤ m }
+    requires most { m ≤ 6 }
+    ensures marks { OnSome result (2 * direction (full F.symbols m) b ≤ F.symbols.marks) }
+    ensures block { MatchOption result (F.symbols.marks < 2 * direction (full F.symbols m) b) (λ block. BlockOf (full F.symbols m) b block.kind (F.value block.p) (F.value block.q)) }
+{
+    let direction = (b % m + 1) as u32;
+    let p = F::mark(2 * direction - 1)?;
+    let q = F::mark(2 * direction)?;
+    Some(Block {
+        kind: kind_at(m, b),
+        p,
+        q,
+    })
+}
+
 // The data box in place b, from 0. Absent for a size outside 1 to 6, a place
 // that is none of the 3m, and where the field lacks the marks of its direction.
 pub fn data_box<F: Sums>(m: usize, b: usize) -> Option<DataBox<F>>
-    ensures { elim result [ None ↦ (Fits F.symbols m b → ⊥) | Some o ↦ Fits F.symbols m b × BoxOf (full F.symbols m) b o.kind o.shift (F.value o.p) (F.value o.q) ] }
+    ensures { MatchOption result (Fits F.symbols m b → ⊥) (λ o. Fits F.symbols m b × BoxOf (full F.symbols m) b o.block.kind o.shift (F.value o.block.p) (F.value o.block.q)) }
 {
     if m < 1 || 6 < m || KINDS * m <= b {
         return None;
     }
-    let direction = (b % m + 1) as u32;
-    let p = F::mark(2 * direction - 1)?;
-    let q = F::mark(2 * direction)?;
+    let block = block_at(m, b)?;
     Some(DataBox {
-        kind: kind_at(m, b),
+        block,
         shift: shift_at(m, b),
-        p,
-        q,
     })
 }
