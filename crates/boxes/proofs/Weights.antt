@@ -1,7 +1,8 @@
 -- The arithmetic of rows, as the program does it. Assumes nothing.
-use Rattle.std.proofs.Common.{◌≡◌, ℕ, suc, ◌+◌, ◌-◌, ◌*◌, ◌/◌, ◌%◌, ◌^◌, ◌<◌, ◌≤◌, sym, ap, ◌∙◌, ap₂, inl, inr, mul-le-mul_right, mul_assoc, suc-mul, mul_comm, pow-suc, arith, pow_pos, pow_mono}
+use Rattle.std.proofs.Common.{Option, Some, MatchOption, subst, ◌≡◌, ℕ, suc, ◌+◌, ◌-◌, ◌*◌, ◌/◌, ◌%◌, ◌^◌, ◌<◌, ◌≤◌, sym, ap, ◌∙◌, ap₂, inl, inr, mul-le-mul_right, mul_assoc, suc-mul, mul_comm, pow-suc, arith, pow_mono}
 use native.Mathlib.Nat.{div-add-mod, div-eq_of_lt}
 use Rattle.std.proofs.lemmas.Bool.{cases_lt}
+use Rattle.std.proofs.lemmas.Option.{MatchOption-at_some}
 use Rattle.code.specs.Rows.{lower}
 use Rattle.code.proofs.Pairing.{upper_below}
 use Rattle.boxes.specs.Pairs.{RowsOfPair}
@@ -52,3 +53,9 @@ shift_less m b h = omega arith
 -- part b of n parts of r ends within them
 pub part_fits : (b n r : ℕ) → b < n → b * r + r ≤ n * r
 part_fits b n r h = let t : suc b * r ≤ n * r = mul-le-mul_right r h in let u : suc b * r ≡ b * r + r = suc-mul b r in omega arith
+
+-- the rows of a pair that is there, by the size and the digit that the code names
+pub rows_are : {o : Option (ℕ × ℕ)} {m k m' k' j : ℕ} (p : ℕ × ℕ) → o ≡ Some p → MatchOption o (2 ^ (m - 1) ≤ j) (λ q. RowsOfPair m k j q.0 q.1) → m ≡ m' → k ≡ k' → RowsOfPair m' k' j p.0 p.1
+rows_are {m = m} {k = k} {m' = m'} {k' = k'} {j = j} p is rows em ek =
+    let here : RowsOfPair m k j p.0 p.1 = MatchOption-at_some _ (λ q. RowsOfPair m k j q.0 q.1) p is rows in
+    subst (λ n. RowsOfPair n k' j p.0 p.1) em (subst (λ n. RowsOfPair m n j p.0 p.1) ek here)

@@ -1,8 +1,8 @@
 -- What a slice's symbols stand for, as loops read and write them. Assumes nothing.
-use Rattle.std.proofs.Common.{◌≡◌, ℕ, zero, suc, ◌+◌, ◌*◌, ◌^◌, ◌<◌, ◌≤◌, ◌≢◌, List, [], ◌∷◌, map, length, get_or, take, drop, set, sym, refl, ap, ◌∙◌, subst, inl, inr, arith, length-set, get_or-set_other, get_or-set_same}
+use Rattle.std.proofs.Common.{◌≡◌, ℕ, zero, suc, ◌+◌, ◌*◌, ◌^◌, ◌<◌, ◌≤◌, ◌≢◌, List, [], ◌∷◌, ◌++◌, map, add-mul, one-mul, zero-mul, length, get_or, take, drop, set, sym, refl, ap, ◌∙◌, subst, inl, inr, arith, length-set, get_or-set_other, get_or-set_same}
 use lib.ListN.{length-map}
 use lib.Seq.{map-set}
-use Rattle.std.proofs.lemmas.List.{get_or-map, get_or-take, get_or-drop}
+use Rattle.std.proofs.lemmas.List.{get_or-map, get_or-take, get_or-drop, get_or_append_left, get_or-append-add, map-append, length-append}
 use Rattle.std.proofs.lemmas.Bool.{cases_eq}
 use Rattle.field.specs.Symbols.{Symbols}
 use Rattle.code.specs.Contents.{at, parts}
@@ -20,9 +20,12 @@ map_drop f (suc n) [] = refl
 map_drop f (suc n) (x ∷ xs) = map_drop f n xs
 
 module _ (Y : Symbols) {S : Type 0} (value : S → Y.Symbol) where
-  -- an element that is read
+  -- an element that is read, by its place or by its index
+  pub element : (xs : List S) (i : ℕ) (d : S) → i < length xs → value (get_or xs i d) ≡ at Y value xs i
+  element xs i d h = sym (get_or-map value xs i d Y.ring.zero h)
+
   pub read : (xs : List S) (i : ℕ) (r : S) → i < length xs → r ≡ get_or xs i r → value r ≡ at Y value xs i
-  read xs i r h e = ap value e ∙ sym (get_or-map value xs i r Y.ring.zero h)
+  read xs i r h e = ap value e ∙ element xs i r h
 
   -- an element that is written, and the others
   pub written : (xs : List S) (i : ℕ) (r : S) → i < length xs → at Y value (set xs i r) i ≡ value r
@@ -42,6 +45,37 @@ module _ (Y : Symbols) {S : Type 0} (value : S → Y.Symbol) where
       ∙ get_or-take k (drop s (map value xs)) a Y.ring.zero h
       ∙ get_or-drop s (map value xs) a Y.ring.zero
       ∙ ap (λ i. get_or (map value xs) (i + a) Y.ring.zero) start
+
+  -- what is left of a slice after k parts of n symbols
+  pub record Left (n k : ℕ) (xs rest : List S) : Type 0 where
+    pub here : (a : ℕ) → at Y value rest a ≡ at Y value xs (k * n + a)
+    pub long : k * n + length rest ≡ length xs
+
+  pub left_all : (n k : ℕ) (xs rest : List S) → k ≡ 0 → rest ≡ xs → Left n k xs rest
+  left_all n k xs rest none all =
+      let start : k * n ≡ 0 = ap (λ k. k * n) none ∙ zero-mul n in
+      record { here = λ a. ap (λ ys. at Y value ys a) all ∙ ap (at Y value xs) (omega arith); long = omega (arith, ap length all) }
+
+  module _ (n k : ℕ) (xs rest x after : List S) (cut : rest ≡ x ++ after) (size : length x ≡ n) (l : Left n k xs rest) where
+    -- the next part
+    pub left_part : (a : ℕ) → a < n → at Y value x a ≡ parts Y value n xs k a
+    left_part a h =
+        let long : a < length (map value x) = simp length-map (omega arith) in
+        sym (get_or_append_left (map value x) (map value after) Y.ring.zero a long)
+        ∙ ap (λ ys. get_or ys a Y.ring.zero) (sym (map-append value x after) ∙ ap (map value) (sym cut)) ∙ l.here a
+
+    pub left_more : Left n (k + 1) xs after
+    left_more =
+        let next : (k + 1) * n ≡ k * n + n = add-mul k 1 n ∙ ap (λ m. k * n + m) (one-mul n) in
+        let whole : length (map value x) ≡ n = simp length-map size in
+        let sides : length rest ≡ length x + length after = ap length cut ∙ length-append x after in
+        record {
+          here = λ a.
+            sym (get_or-append-add (map value x) (map value after) a Y.ring.zero)
+            ∙ (λ i. get_or (sym (map-append value x after) i) (whole i + a) Y.ring.zero)
+            ∙ ap (λ ys. at Y value ys (n + a)) (sym cut) ∙ l.here (n + a) ∙ ap (at Y value xs) (omega (arith, next));
+          long = omega (arith, next, sides, l.long);
+        }
 
   -- the rows below k hold f, the others what they held
   pub record Rowwise (f : ℕ → Y.Symbol) (before : List S) (k : ℕ) (xs : List S) : Type 0 where

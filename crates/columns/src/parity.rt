@@ -1,46 +1,76 @@
 // The two parity columns of a file.
-ghost use Rattle.std.specs.Prelude.{◌≡◌, ℕ, ◌+◌, ◌-◌, ◌*◌, ◌^◌, ◌<◌, ◌≤◌, [], ◌∷◌, length, Ok, Err};
+ghost use Rattle.std.specs.Prelude.{◌≡◌, ℕ, ◌+◌, ◌-◌, ◌*◌, ◌^◌, ◌<◌, ◌≤◌, [], ◌∷◌, length, MatchResult};
 ghost use Rattle.code.specs.Codes.{full, parity1, parity2};
-ghost use Rattle.code.specs.Contents.{Holds, at, parts};
+ghost use Rattle.code.specs.Contents.{Holds, added, at, parts};
 ghost use Rattle.refusal.specs.Refusals.{earliest as soonest, few_marks, refusal, wrong_lengths, wrong_size};
-ghost use Rattle.columns.specs.Sizes.{Sized};
+ghost use Rattle.columns.specs.Parities.{parity as parity_of, share};
 
-use crate::boxes::KINDS;
 use crate::column::{add_pairs, add_rows, clear};
-use crate::rows::power;
+use boxes::Cabinet;
 use field::Sums;
-use refusal::{Refusal, earliest, few_marks, sized, wrong_lengths};
+use refusal::{Refusal, fitting};
 
-// Adds every data column into the first parity and its image into the second.
-fn add_columns<F: Sums>(m: usize, file: &[F], first: &mut [F], second: &mut [F])
-    requires sized { Sized F.symbols m }
-    requires whole { length file.now ≡ 3 * m * 2 ^ m }
-    requires sums { length first.old ≡ 2 ^ m }
-    requires images { length second.old ≡ 2 ^ m }
-    requires no_sums { Holds F.symbols F.value (2 ^ m) first.old (λ _. F.symbols.ring.zero) }
-    requires no_images { Holds F.symbols F.value (2 ^ m) second.old (λ _. F.symbols.ring.zero) }
-    ensures first { Holds F.symbols F.value (2 ^ m) first.new (parity1 (full F.symbols m) (parts F.symbols F.value (2 ^ m) file.now)) }
-    ensures second { Holds F.symbols F.value (2 ^ m) second.new (parity2 (full F.symbols m) (parts F.symbols F.value (2 ^ m) file.now)) }
-{
-    let rows = power(m);
-    for b in 0..KINDS * m {
-        let column = &file[b * rows..b * rows + rows];
-        add_rows(first, column);
-        add_pairs(m, b, second, column);
+// The first parity column is the sum of the data columns, the second the sum of their images.
+#[derive(Clone, Copy, Debug, PartialEq, Eq)]
+pub enum Parity {
+    First,
+    Second,
+}
+
+impl Parity {
+    // Adds the share that the column of the data box in place b has in the parity column.
+    fn add_share<F: Sums>(self, cabinet: &Cabinet<F>, b: usize, sum: &mut [F], column: &[F])
+        requires sums { length sum.old ≡ 2 ^ cabinet.now.size.m }
+        requires rows { length column.now ≡ 2 ^ cabinet.now.size.m }
+        ensures { Holds F.symbols F.value (2 ^ cabinet.now.size.m) sum.new (added F.symbols (at F.symbols F.value sum.old) (share self (full F.symbols cabinet.now.size.m) b (at F.symbols F.value column.now))) }
+    {
+        match self {
+            Parity::First => add_rows(sum, column),
+            Parity::Second => add_pairs(cabinet, b, sum, column),
+        }
+    }
+
+    // Adds the shares of all data columns of a file into a column.
+    fn add_shares<F: Sums>(self, cabinet: &Cabinet<F>, file: &[F], sum: &mut [F])
+        requires whole { length file.now ≡ 3 * cabinet.now.size.m * 2 ^ cabinet.now.size.m }
+        requires rows { length sum.old ≡ 2 ^ cabinet.now.size.m }
+        requires empty { Holds F.symbols F.value (2 ^ cabinet.now.size.m) sum.old (λ _. F.symbols.ring.zero) }
+        ensures { Holds F.symbols F.value (2 ^ cabinet.now.size.m) sum.new (parity_of self (full F.symbols cabinet.now.size.m) (parts F.symbols F.value (2 ^ cabinet.now.size.m) file.now)) }
+    {
+        for (b, column) in file.chunks_exact(cabinet.size.rows()).enumerate() {
+            self.add_share(cabinet, b, sum, column);
+        }
+    }
+
+    fn write<F: Sums>(self, cabinet: &Cabinet<F>, file: &[F], into: &mut [F])
+        requires whole { length file.now ≡ 3 * cabinet.now.size.m * 2 ^ cabinet.now.size.m }
+        requires rows { length into.old ≡ 2 ^ cabinet.now.size.m }
+        ensures { Holds F.symbols F.value (2 ^ cabinet.now.size.m) into.new (parity_of self (full F.symbols cabinet.now.size.m) (parts F.symbols F.value (2 ^ cabinet.now.size.m) file.now)) }
+    {
+        clear(into);
+        self.add_shares(cabinet, file, into);
     }
 }
 
-fn write_parities<F: Sums>(m: usize, file: &[F], first: &mut [F], second: &mut [F])
-    requires sized { Sized F.symbols m }
-    requires whole { length file.now ≡ 3 * m * 2 ^ m }
-    requires sums { length first.old ≡ 2 ^ m }
-    requires images { length second.old ≡ 2 ^ m }
-    ensures first { Holds F.symbols F.value (2 ^ m) first.new (parity1 (full F.symbols m) (parts F.symbols F.value (2 ^ m) file.now)) }
-    ensures second { Holds F.symbols F.value (2 ^ m) second.new (parity2 (full F.symbols m) (parts F.symbols F.value (2 ^ m) file.now)) }
+// Writes one parity column of a file of 3m columns. Refused, with nothing
+// written, by a size, too few marks or a length that does not fit.
+pub fn parity_column<F: Sums>(
+    m: usize,
+    which: Parity,
+    file: &[F],
+    into: &mut [F],
+) -> Result<(), Refusal>
+    ensures answer { refusal result ≡ soonest (wrong_size m ∷ few_marks F.symbols m ∷ wrong_lengths ((length file.now, 3 * m * 2 ^ m) ∷ (length into.old, 2 ^ m) ∷ []) ∷ []) }
+    ensures column { MatchResult result (λ _. Holds F.symbols F.value (2 ^ m) into.new (parity_of which (full F.symbols m) (parts F.symbols F.value (2 ^ m) file.now))) (λ _. into.new ≡ into.old) }
 {
-    clear(first);
-    clear(second);
-    add_columns(m, file, first, second);
+    let cabinet = Cabinet::new(m)?;
+    let rows = cabinet.size.rows();
+    fitting(&[
+        (file.len(), cabinet.size.boxes() * rows),
+        (into.len(), rows),
+    ])?;
+    which.write(&cabinet, file, into);
+    Ok(())
 }
 
 // Writes both parity columns of a file of 3m columns: the sum of the columns
@@ -53,22 +83,17 @@ pub fn parities<F: Sums>(
     second: &mut [F],
 ) -> Result<(), Refusal>
     ensures answer { refusal result ≡ soonest (wrong_size m ∷ few_marks F.symbols m ∷ wrong_lengths ((length file.now, 3 * m * 2 ^ m) ∷ (length first.old, 2 ^ m) ∷ (length second.old, 2 ^ m) ∷ []) ∷ []) }
-    ensures sums { elim result [ Ok _ ↦ Holds F.symbols F.value (2 ^ m) first.new (parity1 (full F.symbols m) (parts F.symbols F.value (2 ^ m) file.now)) | Err _ ↦ first.new ≡ first.old ] }
-    ensures images { elim result [ Ok _ ↦ Holds F.symbols F.value (2 ^ m) second.new (parity2 (full F.symbols m) (parts F.symbols F.value (2 ^ m) file.now)) | Err _ ↦ second.new ≡ second.old ] }
+    ensures sums { MatchResult result (λ _. Holds F.symbols F.value (2 ^ m) first.new (parity1 (full F.symbols m) (parts F.symbols F.value (2 ^ m) file.now))) (λ _. first.new ≡ first.old) }
+    ensures images { MatchResult result (λ _. Holds F.symbols F.value (2 ^ m) second.new (parity2 (full F.symbols m) (parts F.symbols F.value (2 ^ m) file.now))) (λ _. second.new ≡ second.old) }
 {
-    sized(m)?;
-    let rows = power(m);
-    earliest(&[
-        (few_marks::<F>(m), Refusal::Marks),
-        (
-            wrong_lengths(&[
-                (file.len(), KINDS * m * rows),
-                (first.len(), rows),
-                (second.len(), rows),
-            ]),
-            Refusal::Length,
-        ),
+    let cabinet = Cabinet::new(m)?;
+    let rows = cabinet.size.rows();
+    fitting(&[
+        (file.len(), cabinet.size.boxes() * rows),
+        (first.len(), rows),
+        (second.len(), rows),
     ])?;
-    write_parities(m, file, first, second);
+    Parity::First.write(&cabinet, file, first);
+    Parity::Second.write(&cabinet, file, second);
     Ok(())
 }
