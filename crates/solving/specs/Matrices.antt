@@ -21,10 +21,13 @@ module _ {A : Type 0} (R : Ring A) where
   abbrev pub applied : Matrix A → A → A → Bool → A
   applied M s t r = R.plus (R.times (M r false) s) (R.times (M r true) t)
 
+  -- the determinant of a block less z
+  abbrev pub determinant : A → A → A → A
+  determinant p q z = R.times (◌∸◌ R p z) (◌∸◌ R q z)
+
   -- M undoes the block less z
   abbrev pub UndoesShift : Kind → A → A → A → Matrix A → Type 0
-  UndoesShift u p q z M =
-      (e : A) × (R.times e (R.times (◌∸◌ R p z) (◌∸◌ R q z)) ≡ R.one) × Entrywise M (undo_shift R u p q z e)
+  UndoesShift u p q z M = (e : A) × (R.times e (determinant p q z) ≡ R.one) × Entrywise M (undo_shift R u p q z e)
 
   -- M undoes the difference of the blocks of two kinds
   abbrev pub UndoesDifference : Kind → Kind → A → A → Matrix A → Type 0

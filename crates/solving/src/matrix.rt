@@ -2,7 +2,7 @@
 ghost use Rattle.std.specs.Prelude.{◌≡◌, true, false, MatchOption};
 ghost use Rattle.code.specs.Blocks.{◌∸◌};
 ghost use Rattle.code.specs.Decoding.{block_matrix, from_eigen, to_eigen, unit};
-ghost use Rattle.solving.specs.Matrices.{applied, entries, Entrywise, UndoesDifference, UndoesShift};
+ghost use Rattle.solving.specs.Matrices.{applied, determinant as determinant_of, entries, Entrywise, UndoesDifference, UndoesShift};
 
 use code::{Block, Kind};
 use field::{Quotients, Sums};
@@ -19,10 +19,10 @@ pub(crate) struct Matrix<F> {
 impl<F: Sums> From<Block<F>> for Matrix<F> {
     ghost from_gives = { λ block matrix. Entrywise (entries F.value matrix) (block_matrix F.symbols.ring block.kind (F.value block.p) (F.value block.q)) };
 
-    fn from(block: Block<F>) -> Matrix<F> {
+    fn from(block: Block<F>) -> Self {
         let (zero, one) = (F::zero(), F::one());
         let (left, right) = (block.apply(one, zero), block.apply(zero, one));
-        Matrix {
+        Self {
             lower: (left.0, right.0),
             upper: (left.1, right.1),
         }
@@ -31,20 +31,20 @@ impl<F: Sums> From<Block<F>> for Matrix<F> {
 
 impl<F: Sums> Matrix<F> {
     // From a pair to its functionals with the eigenvalues p and q.
-    pub(crate) fn into_eigen(kind: Kind) -> Matrix<F>
+    pub(crate) fn into_eigen(kind: Kind) -> Self
         ensures { Entrywise (entries F.value result) (to_eigen F.symbols.ring kind) }
     {
         let (zero, one) = (F::zero(), F::one());
         match kind {
-            Kind::Lower => Matrix {
+            Kind::Lower => Self {
                 lower: (zero, one),
                 upper: (one, one),
             },
-            Kind::Upper => Matrix {
+            Kind::Upper => Self {
                 lower: (one, one),
                 upper: (one, zero),
             },
-            Kind::Sum => Matrix {
+            Kind::Sum => Self {
                 lower: (one, zero),
                 upper: (zero, one),
             },
@@ -52,20 +52,20 @@ impl<F: Sums> Matrix<F> {
     }
 
     // And back.
-    pub(crate) fn out_of_eigen(kind: Kind) -> Matrix<F>
+    pub(crate) fn out_of_eigen(kind: Kind) -> Self
         ensures { Entrywise (entries F.value result) (from_eigen F.symbols.ring kind) }
     {
         let (zero, one) = (F::zero(), F::one());
         match kind {
-            Kind::Lower => Matrix {
+            Kind::Lower => Self {
                 lower: (one.negative(), one),
                 upper: (one, zero),
             },
-            Kind::Upper => Matrix {
+            Kind::Upper => Self {
                 lower: (zero, one),
                 upper: (one, one.negative()),
             },
-            Kind::Sum => Matrix {
+            Kind::Sum => Self {
                 lower: (one, zero),
                 upper: (zero, one),
             },
@@ -73,11 +73,11 @@ impl<F: Sums> Matrix<F> {
     }
 
     // A multiple of the matrix that changes nothing.
-    fn multiple(f: F) -> Matrix<F>
+    fn multiple(f: F) -> Self
         ensures { Entrywise (entries F.value result) (λ i j. F.symbols.ring.times (F.value f) (unit F.symbols.ring i j)) }
     {
         let (none, all) = (f.product(F::zero()), f.product(F::one()));
-        Matrix {
+        Self {
             lower: (all, none),
             upper: (none, all),
         }
@@ -88,7 +88,7 @@ impl<F: Sums> Matrix<F> {
         ensures lower { F.value result.0 ≡ applied F.symbols.ring (entries F.value self) (F.value s) (F.value t) false }
         ensures upper { F.value result.1 ≡ applied F.symbols.ring (entries F.value self) (F.value s) (F.value t) true }
     {
-        let Matrix { lower, upper } = self;
+        let Self { lower, upper } = self;
         (
             lower.0.product(s).sum(lower.1.product(t)),
             upper.0.product(s).sum(upper.1.product(t)),
@@ -96,11 +96,11 @@ impl<F: Sums> Matrix<F> {
     }
 
     // The difference from another matrix, times e.
-    fn scaled_difference(self, other: Matrix<F>, e: F) -> Matrix<F>
+    fn scaled_difference(self, other: Self, e: F) -> Self
         ensures { Entrywise (entries F.value result) (λ i j. F.symbols.ring.times (F.value e) (◌∸◌ F.symbols.ring (entries F.value self i j) (entries F.value other i j))) }
     {
         let entry = |a: F, b: F| e.product(minus(a, b));
-        Matrix {
+        Self {
             lower: (
                 entry(self.lower.0, other.lower.0),
                 entry(self.lower.1, other.lower.1),
@@ -115,23 +115,35 @@ impl<F: Sums> Matrix<F> {
 
 impl<F: Quotients> Matrix<F> {
     // What undoes a block less z. Absent where z is one of its eigenvalues.
-    pub(crate) fn undo_shift(block: Block<F>, z: F) -> Option<Matrix<F>>
-        ensures { MatchOption result (F.Sums.symbols.ring.times (◌∸◌ F.Sums.symbols.ring (F.Sums.value block.p) (F.Sums.value z)) (◌∸◌ F.Sums.symbols.ring (F.Sums.value block.q) (F.Sums.value z)) ≡ F.Sums.symbols.ring.zero) (λ u. UndoesShift F.Sums.symbols.ring block.kind (F.Sums.value block.p) (F.Sums.value block.q) (F.Sums.value z) (entries F.Sums.value u)) }
+    pub(crate) fn undo_shift(block: Block<F>, z: F) -> Option<Self>
+        ensures { MatchOption result (determinant_of F.symbols.ring (F.value block.p) (F.value block.q) (F.value z) ≡ F.symbols.ring.zero) (λ u. UndoesShift F.symbols.ring block.kind (F.value block.p) (F.value block.q) (F.value z) (entries F.value u)) }
     {
-        let e = minus(block.p, z).product(minus(block.q, z)).inverse()?;
-        let all = Matrix::multiple(minus(block.p.sum(block.q), z));
+        // The adjugate of the block less z, over its determinant.
+        let e = determinant(block, z).inverse()?;
+        let all = Self::multiple(minus(block.p.sum(block.q), z));
         Some(all.scaled_difference(block.into(), e))
     }
 
     // What undoes the difference of the blocks of two boxes of one direction.
     // Absent where its two eigenvalues are one.
-    pub(crate) fn undo_difference(block: Block<F>, other: Kind) -> Option<Matrix<F>>
-        ensures { MatchOption result (◌∸◌ F.Sums.symbols.ring (F.Sums.value block.q) (F.Sums.value block.p) ≡ F.Sums.symbols.ring.zero) (λ u. UndoesDifference F.Sums.symbols.ring block.kind other (F.Sums.value block.p) (F.Sums.value block.q) (entries F.Sums.value u)) }
+    pub(crate) fn undo_difference(block: Block<F>, other: Kind) -> Option<Self>
+        ensures { MatchOption result (◌∸◌ F.symbols.ring (F.value block.q) (F.value block.p) ≡ F.symbols.ring.zero) (λ u. UndoesDifference F.symbols.ring block.kind other (F.value block.p) (F.value block.q) (entries F.value u)) }
     {
+        // The difference, applied twice, multiplies by the square of the gap.
         let d = block.gap().inverse()?;
-        let other = Block { kind: other, ..block };
-        Some(Matrix::from(block).scaled_difference(other.into(), d.product(d)))
+        let other = Block {
+            kind: other,
+            ..block
+        };
+        Some(Self::from(block).scaled_difference(other.into(), d.product(d)))
     }
+}
+
+// The determinant of a block less z.
+fn determinant<F: Sums>(block: Block<F>, z: F) -> F
+    ensures { F.value result ≡ determinant_of F.symbols.ring (F.value block.p) (F.value block.q) (F.value z) }
+{
+    minus(block.p, z).product(minus(block.q, z))
 }
 
 fn minus<F: Sums>(a: F, b: F) -> F

@@ -5,5 +5,5 @@ pub returns : goal.returns
 returns g c = (
   g.F.Sums.value c.in_ok-d.d,
   rw (sym c.gap.ensures) (g.F.Sums.symbols.ring.times_comm _ _ ∙ c.in_ok-d.ensures),
-  λ i j. rw (c.scaled_difference.ensures i j, c.product.ensures, c.from.ensures i j, c.into.ensures i j) refl,
+  λ i j. simp (c.scaled_difference.ensures, c.product.ensures, c.from.ensures, c.into.ensures) refl,
 )
