@@ -1,3 +1,2 @@
 pub mod Shares
 pub mod Slices
-pub mod Weights
