@@ -7,17 +7,12 @@ use Rattle.code.specs.Rows.{lower}
 use Rattle.code.proofs.Pairing.{upper_below}
 use Rattle.boxes.specs.Pairs.{RowsOfPair}
 
--- 2 ^ k as the program makes it, for a small k
-pub power_exact : (k : ℕ) → k ≤ 6 → 1 * 2 ^ (k % 64) % 18446744073709551616 ≡ 2 ^ k
-power_exact k h =
-    let same : 2 ^ (k % 64) ≡ 2 ^ k = ap (λ n. 2 ^ n) (omega arith) in
-    let most : 2 ^ k ≤ 64 = pow_mono h in
-    omega arith
+-- the power of a small exponent
+pub power_is : (k r : ℕ) → k ≤ 6 → r ≡ 2 ^ (k % 64) → r ≡ 2 ^ k
+power_is k r h e = e ∙ ap (λ n. 2 ^ n) (omega arith)
 
-pub power_most : (k : ℕ) → k ≤ 6 → 1 * 2 ^ (k % 64) % 18446744073709551616 ≤ 64
-power_most k h =
-    let most : 2 ^ k ≤ 64 = pow_mono h in
-    omega (arith, power_exact k h)
+pub power_most : (k : ℕ) → k ≤ 6 → 2 ^ k ≤ 64
+power_most k h = pow_mono h
 
 -- a row with an upper digit is at least as large as the digit's weight
 pub weight_most : (w a : ℕ) → a / w % 2 ≡ 1 → w ≤ a
@@ -54,8 +49,11 @@ shift_less m b h = omega arith
 pub part_fits : (b n r : ℕ) → b < n → b * r + r ≤ n * r
 part_fits b n r h = let t : suc b * r ≤ n * r = mul-le-mul_right r h in let u : suc b * r ≡ b * r + r = suc-mul b r in omega arith
 
--- the rows of a pair that is there, by the size and the digit that the code names
+-- the rows of a pair, by the size and the digit that the code names
+pub rows_named : {m k m' k' j low high : ℕ} → m ≡ m' → k ≡ k' → RowsOfPair m k j low high → RowsOfPair m' k' j low high
+rows_named {m = m} {k' = k'} {j = j} {low = low} {high = high} em ek rows =
+    subst (λ n. RowsOfPair n k' j low high) em (subst (λ n. RowsOfPair m n j low high) ek rows)
+
+-- and of a pair that is there
 pub rows_are : {o : Option (ℕ × ℕ)} {m k m' k' j : ℕ} (p : ℕ × ℕ) → o ≡ Some p → MatchOption o (2 ^ (m - 1) ≤ j) (λ q. RowsOfPair m k j q.0 q.1) → m ≡ m' → k ≡ k' → RowsOfPair m' k' j p.0 p.1
-rows_are {m = m} {k = k} {m' = m'} {k' = k'} {j = j} p is rows em ek =
-    let here : RowsOfPair m k j p.0 p.1 = MatchOption-at_some _ (λ q. RowsOfPair m k j q.0 q.1) p is rows in
-    subst (λ n. RowsOfPair n k' j p.0 p.1) em (subst (λ n. RowsOfPair m n j p.0 p.1) ek here)
+rows_are {m = m} {k = k} {j = j} p is rows em ek = rows_named em ek (MatchOption-at_some _ (λ q. RowsOfPair m k j q.0 q.1) p is rows)

@@ -21,7 +21,11 @@ pub struct DataBox<F> {
 pub fn kind_at(m: usize, b: usize) -> Kind
     ensures { result ≡ kind_of (b / m) }
 {
-    if m == 0 { Kind::Lower } else { Kind::from(b / m) }
+    if m == 0 {
+        Kind::Lower
+    } else {
+        Kind::from(b / m)
+    }
 }
 
 // The place of the digit of its direction.

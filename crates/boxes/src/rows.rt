@@ -1,16 +1,24 @@
 // Rows by their binary digits; k is the place of a digit, so that its weight is 2^k.
 ghost use Rattle.std.specs.Prelude.{◌≡◌, ℕ, ◌-◌, ◌%◌, ◌^◌, ◌<◌, ◌≤◌, MatchOption, false};
 ghost use Rattle.code.specs.Rows.{digit, odd, pair_of, partner};
-ghost use Rattle.boxes.specs.Pairs.{RowsOfPair};
+ghost use Rattle.std.specs.Iterator.{at_most};
+ghost use Rattle.boxes.specs.Pairs.{NextPair, RowsOfPair};
 
 // 2^k, with k counted modulo 64.
 pub fn power(k: usize) -> usize
-    ensures value { result ≡ 2 ^ (k % 64) }
-    ensures exact { k ≤ 6 → result ≡ 2 ^ k }
-    ensures small { k ≤ 6 → result ≤ 64 }
-    ensures positive { 1 ≤ result }
+    ensures { result ≡ 2 ^ (k % 64) }
 {
     1 << (k % 64)
+}
+
+// The same for a k that a size leaves.
+pub(crate) fn small_power(k: usize) -> usize
+    requires { k ≤ 6 }
+    ensures value { result ≡ 2 ^ k }
+    ensures bound { result ≤ 64 }
+    ensures positive { 1 ≤ result }
+{
+    power(k)
 }
 
 // One of the binary digits of the rows of a column, at most six of them.
@@ -38,7 +46,7 @@ impl Digit {
         ensures bound { result ≤ 64 }
         ensures positive { 1 ≤ result }
     {
-        power(self.place)
+        small_power(self.place)
     }
 
     // The two rows of pair j along the digit, the lower first. Absent where
@@ -46,13 +54,24 @@ impl Digit {
     pub fn pair(&self, j: usize) -> Option<(usize, usize)>
         ensures { MatchOption result (2 ^ (self.now.digits - 1) ≤ j) (λ p. RowsOfPair self.now.digits self.now.place j p.0 p.1) }
     {
-        if power(self.digits - 1) <= j {
+        if small_power(self.digits - 1) <= j {
             return None;
         }
         let weight = self.weight();
         // The digits of j from the place up move one place up: its high part is added once more.
         let low = j + (j - j % weight);
         Some((low, low + weight))
+    }
+
+    // All pairs along the digit.
+    pub fn pairs(&self) -> Pairs<'_>
+        ensures digit { result.digit.now ≡ self.now }
+        ensures start { result.next ≡ 0 }
+    {
+        Pairs {
+            digit: self,
+            next: 0,
+        }
     }
 
     // Is the digit of a row 1?
@@ -80,6 +99,27 @@ impl Digit {
     {
         let weight = self.weight();
         (row - row % (2 * weight)) / 2 + row % weight
+    }
+}
+
+// The rows of the pairs along a digit, from the next pair on.
+#[derive(Debug, Drop)]
+pub struct Pairs<'a> {
+    pub digit: &'a Digit,
+    pub next: usize,
+}
+
+impl Iterator for Pairs<'_> {
+    type Item = (usize, usize);
+
+    ghost next_gives = { λ s r t. (t.digit.now ≡ s.digit.now) × NextPair s.digit.now.digits s.digit.now.place s.next r t.next };
+
+    ghost remaining = { λ s. at_most (2 ^ (s.digit.now.digits - 1) - s.next) };
+
+    fn next(&mut self) -> Option<(usize, usize)> {
+        let rows = self.digit.pair(self.next)?;
+        self.next += 1;
+        Some(rows)
     }
 }
 

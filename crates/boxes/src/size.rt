@@ -3,7 +3,7 @@ ghost use Rattle.std.specs.Prelude.{◌≡◌, ℕ, ◌+◌, ◌-◌, ◌*◌, �
 ghost use Rattle.refusal.specs.Refusals.{refusal, wrong_size};
 
 use crate::kinds::{KINDS, shift_at};
-use crate::rows::{Digit, power};
+use crate::rows::{Digit, small_power};
 use refusal::{Refusal, sized};
 
 // A size m, from 1 to 6: 3m data boxes, and columns of 2^m symbols.
@@ -37,7 +37,7 @@ impl Size {
         ensures bound { result ≤ 64 }
         ensures positive { 1 ≤ result }
     {
-        power(self.m)
+        small_power(self.m)
     }
 
     // How many numbers a half has: one for each pair of rows.
@@ -46,7 +46,7 @@ impl Size {
         ensures bound { result ≤ 64 }
         ensures positive { 1 ≤ result }
     {
-        power(self.m - 1)
+        small_power(self.m - 1)
     }
 
     // The digit of the direction of the data box in place b, from 0.

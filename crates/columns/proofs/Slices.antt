@@ -71,9 +71,9 @@ module _ (Y : Symbols) {S : Type 0} (value : S → Y.Symbol) where
         let sides : length rest ≡ length x + length after = ap length cut ∙ length-append x after in
         record {
           here = λ a.
-            sym (get_or-append-add (map value x) (map value after) a Y.ring.zero)
-            ∙ (λ i. get_or (sym (map-append value x after) i) (whole i + a) Y.ring.zero)
-            ∙ ap (λ ys. at Y value ys (n + a)) (sym cut) ∙ l.here (n + a) ∙ ap (at Y value xs) (omega (arith, next));
+              sym (get_or-append-add (map value x) (map value after) a Y.ring.zero)
+              ∙ (λ i. get_or (sym (map-append value x after) i) (whole i + a) Y.ring.zero)
+              ∙ ap (λ ys. at Y value ys (n + a)) (sym cut) ∙ l.here (n + a) ∙ ap (at Y value xs) (omega (arith, next));
           long = omega (arith, next, sides, l.long);
         }
 
@@ -115,8 +115,8 @@ module _ (Y : Symbols) {S : Type 0} (value : S → Y.Symbol) where
         written_else (set xs low s) high a t (λ e. n (ap (pair_of k) (e ∙ eh) ∙ pair_upper k j))
         ∙ written_else xs low a s (λ e. n (ap (pair_of k) (e ∙ el) ∙ pair_lower k j))
 
-    pub pairwise_more : (f : ℕ → Y.Symbol) (before : List S) → value s ≡ f low → value t ≡ f high → Pairwise k f before j xs → Pairwise k f before (j + 1) both
-    pairwise_more f before es et w = record {
+    pub pairwise_more : (n : ℕ) → n ≡ j + 1 → (f : ℕ → Y.Symbol) (before : List S) → value s ≡ f low → value t ≡ f high → Pairwise k f before j xs → Pairwise k f before n both
+    pairwise_more n next f before es et w = record {
       done = λ a l b. elim (cases_eq (pair_of k a) j) [
         | inl z ↦ elim (row_cases k j a z) [
           | inl u ↦ subst (λ n. at Y value both n ≡ f n) (el ∙ sym u) (at_low ∙ es)

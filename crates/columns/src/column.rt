@@ -36,8 +36,7 @@ pub(crate) fn add_pairs<F: Sums>(cabinet: &Cabinet<F>, b: usize, sum: &mut [F], 
 {
     let block = cabinet.block(b);
     let digit = cabinet.size.digit(b);
-    for j in 0..cabinet.size.pairs() {
-        let (low, high) = digit.pair(j).unwrap();
+    for (low, high) in digit.pairs() {
         let (s, t) = block.apply(column[low], column[high]);
         sum[low] = sum[low].sum(s);
         sum[high] = sum[high].sum(t);

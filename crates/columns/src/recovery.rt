@@ -21,7 +21,10 @@ fn partner_pairs(along: &Digit, across: &Digit, row: usize) -> (usize, usize)
     ensures high_bound { result.1 < 2 ^ (along.now.digits - 1) }
 {
     let low = across.lower_partner(row);
-    (along.pair_index(low), along.pair_index(low + across.weight()))
+    (
+        along.pair_index(low),
+        along.pair_index(low + across.weight()),
+    )
 }
 
 // The place of the helper in place b among all boxes, with the lost box left out.
@@ -128,8 +131,7 @@ impl<'a, F: Sums> Halves<'a, F> {
     {
         let block = self.cabinet.block(self.lost);
         let digit = self.cabinet.size.digit(self.lost);
-        for j in 0..self.cabinet.size.pairs() {
-            let (low, high) = digit.pair(j).unwrap();
+        for (j, (low, high)) in digit.pairs().enumerate() {
             let (g, h) = self.of_lost(j);
             let (s, t) = block.recover(d, g, h);
             column[low] = s;
