@@ -47,6 +47,22 @@ struct Halves<'a, F: Sums> {
 }
 
 impl<'a, F: Sums> Halves<'a, F> {
+    // Those sent for the lost box, from 1 to 3m.
+    fn new(cabinet: Cabinet<F>, lost: usize, numbers: &'a [F]) -> Self
+        requires first { 1 ≤ lost }
+        requires last { lost ≤ 3 * cabinet.size.m }
+        requires whole { length numbers.now ≡ (3 * cabinet.size.m + 1) * 2 ^ (cabinet.size.m - 1) }
+        ensures size { result.cabinet.size.m ≡ cabinet.size.m }
+        ensures place { result.lost ≡ lost - 1 }
+        ensures numbers { result.numbers.now ≡ numbers.now }
+    {
+        Halves {
+            lost: lost - 1,
+            cabinet,
+            numbers,
+        }
+    }
+
     // A helper of another direction: its blocks act on the half as on a column,
     // since the half has a number for each row with digit 0 in the lost direction.
     fn image_across(&self, b: usize, half: &[F], j: usize) -> F
@@ -173,11 +189,7 @@ pub fn restore<F: Quotients>(
     fitting(&[(halves.len(), (boxes + 1) * pairs), (column.len(), rows)])?;
     numbered(boxes + 2, lost)?;
     holding_data(boxes, lost)?;
-    let halves = Halves {
-        cabinet,
-        lost: lost - 1,
-        numbers: halves,
-    };
+    let halves = Halves::new(cabinet, lost, halves);
     write_column(&halves, column);
     Ok(())
 }
