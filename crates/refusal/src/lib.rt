@@ -1,8 +1,8 @@
 // Why a call is declined.
 #![tactic(auto)]
 
-ghost use Rattle.std.specs.Prelude.{◌≡◌, ℕ, ◌*◌, ◌≤◌, ◌<◌};
-ghost use Rattle.refusal.specs.Refusals.{any_wrong, earliest as first, few_marks, no_box, number as number_of, parity_box, refusal, wrong_lengths, wrong_size};
+ghost use Rattle.std.specs.Prelude.{◌≡◌, ℕ, ◌*◌, ◌≤◌, ◌<◌, ◌||◌, nat_lt};
+ghost use Rattle.refusal.specs.Refusals.{any_wrong, earliest as first, few_marks as too_few_marks, no_box, number as number_of, parity_box, refusal, wrong_lengths as wrong_length, wrong_size};
 
 use field::Sums;
 use std::error::Error;
@@ -73,38 +73,52 @@ pub fn sized(m: usize) -> Result<(), Refusal>
     Ok(())
 }
 
+// Does the field have fewer than 2m marks?
+pub fn few_marks<F: Sums>(m: usize) -> bool
+    ensures { result ≡ nat_lt F.symbols.marks (2 * m) }
+{
+    (F::mark_count() as usize) / 2 < m
+}
+
 // Refuses a size for which the field has too few marks.
 pub fn marked<F: Sums>(m: usize) -> Result<(), Refusal>
-    ensures { refusal result ≡ few_marks F.symbols m }
+    ensures { refusal result ≡ too_few_marks F.symbols m }
 {
-    if (F::mark_count() as usize) / 2 < m {
+    if few_marks::<F>(m) {
         return Err(Refusal::Marks);
     }
     Ok(())
 }
 
-// Is one of the lengths not the one that it should be?
-fn one_wrong(lengths: &[(usize, usize)]) -> bool
+// Lengths of buffers, each beside the length that it should be: is one wrong?
+pub fn wrong_lengths(lengths: &[(usize, usize)]) -> bool
     ensures { result ≡ any_wrong lengths.now }
 {
     lengths.iter().any(|(length, wanted)| length != wanted)
 }
 
-// Refuses the lengths of buffers, each beside the length that it should be, if one is wrong.
+// Refuses buffers' lengths if one of them is wrong.
 pub fn fitting(lengths: &[(usize, usize)]) -> Result<(), Refusal>
-    ensures { refusal result ≡ wrong_lengths lengths.now }
+    ensures { refusal result ≡ wrong_length lengths.now }
 {
-    if one_wrong(lengths) {
+    if wrong_lengths(lengths) {
         return Err(Refusal::Length);
     }
     Ok(())
+}
+
+// Is b none of the boxes 1 to n?
+pub fn outside(n: usize, b: usize) -> bool
+    ensures { result ≡ (nat_lt b 1 || nat_lt n b) }
+{
+    b < 1 || n < b
 }
 
 // Refuses a box that is none of the boxes 1 to n.
 pub fn numbered(n: usize, b: usize) -> Result<(), Refusal>
     ensures { refusal result ≡ no_box n b }
 {
-    if b < 1 || n < b {
+    if outside(n, b) {
         return Err(Refusal::NoBox);
     }
     Ok(())
