@@ -11,15 +11,15 @@ use std::fmt;
 #[derive(Clone, Copy, Debug, PartialEq, Eq)]
 pub enum Refusal {
     // m is outside 1 to 6.
-    Size,
+    Size = 2,
     // The field has fewer than 2m marks.
-    Marks,
+    Marks = 3,
     // A buffer's length is wrong.
-    Length,
+    Length = 5,
     // There is no box of that number.
-    NoBox,
+    NoBox = 6,
     // A data box is wanted, and the box is a parity box.
-    Parity,
+    Parity = 11,
 }
 
 impl Refusal {
@@ -27,13 +27,7 @@ impl Refusal {
     pub fn number(self) -> u32
         ensures { result ≡ number_of self }
     {
-        match self {
-            Refusal::Size => 2,
-            Refusal::Marks => 3,
-            Refusal::Length => 5,
-            Refusal::NoBox => 6,
-            Refusal::Parity => 11,
-        }
+        self as u32
     }
 }
 
