@@ -2,26 +2,37 @@
 // One data box is lost, and is renewed from half of each other column.
 #![tactic(auto)]
 
-use anyhow::anyhow;
+ghost use Rattle.std.specs.Prelude.{◌≡◌};
+ghost use Rattle.std.specs.Slice.Iter.{chunks_exact_size};
+
 use byte_field::Byte;
 use columns::{half, parities, restore};
 use field::Sums;
-use refusal::Refusal;
+use std::alloc::Global;
 use std::fmt;
+use std::slice::ChunksExact;
 
 // The size m: columns of 2^m symbols, 3m data boxes.
 const SIZE: usize = 2;
 
-const ROWS: usize = 4;
+const ROWS: usize = 1 << SIZE;
 
-const DATA_BOXES: usize = 6;
+// The symbols of a half, one for each pair of rows.
+const PAIRS: usize = ROWS / 2;
 
-const BOXES: usize = 8;
+const DATA_BOXES: usize = 3 * SIZE;
+
+const PARITIES: usize = 2;
+
+const BOXES: usize = DATA_BOXES + PARITIES;
+
+// The symbols of a file, as many as renewal from whole columns would take.
+const SYMBOLS: usize = DATA_BOXES * ROWS;
 
 const LOST: usize = 3;
 
 // Threshold and comfort levels, box after box.
-const LEVELS: [u8; 24] = [
+const LEVELS: [u8; SYMBOLS] = [
     101, 104, 98, 107, 188, 192, 181, 196, 110, 113, 109, 95, 201, 205, 199, 187, 92, 90, 88, 103,
     176, 180, 171, 168,
 ];
@@ -35,122 +46,113 @@ struct Line<'a> {
 
 impl fmt::Display for Line<'_> {
     fn fmt<W: fmt::Write>(&self, f: &mut fmt::Formatter<W>) -> fmt::Result {
-        let number = self.number;
-        write!(f, "box {number}:")?;
+        write!(f, "box {}:", self.number)?;
         for symbol in self.symbols {
-            let n = symbol.number();
-            write!(f, " {n}")?;
+            write!(f, " {}", symbol.number())?;
         }
         Ok(())
     }
 }
 
-fn file() -> [Byte; 24] {
-    let mut file = [Byte(0); 24];
-    for i in 0..24 {
-        file[i] = Byte(LEVELS[i]);
-    }
-    file
+// The columns of all boxes, one after another, the parities last.
+#[derive(Drop)]
+struct Cabinet {
+    symbols: Vec<Byte>,
 }
 
-fn fits(answer: Result<(), Refusal>) -> anyhow::Result<()> {
-    match answer {
-        Ok(()) => Ok(()),
-        Err(_) => Err(anyhow!("a size does not fit")),
+impl Cabinet {
+    fn new(alloc: Global, levels: &[u8]) -> anyhow::Result<Cabinet> {
+        let mut symbols: Vec<Byte> = levels.iter().copied().map(Byte).collect(alloc)?;
+        let mut first = [Byte(0); ROWS];
+        let mut second = [Byte(0); ROWS];
+        parities(SIZE, &symbols, &mut first, &mut second)?;
+        symbols.extend_from_slice(&first)?;
+        symbols.extend_from_slice(&second)?;
+        Ok(Cabinet { symbols })
     }
-}
 
-// The eight columns, one after another.
-fn columns(file: &[Byte; 24]) -> anyhow::Result<[Byte; 32]> {
-    let mut first = [Byte(0); ROWS];
-    let mut second = [Byte(0); ROWS];
-    fits(parities(SIZE, file, &mut first, &mut second))?;
-    let mut columns = [Byte(0); 32];
-    for i in 0..24 {
-        columns[i] = file[i];
+    fn columns(&self) -> ChunksExact<'_, Byte>
+        ensures { chunks_exact_size result ≡ ROWS }
+    {
+        self.symbols.chunks_exact(ROWS)
     }
-    for a in 0..ROWS {
-        columns[24 + a] = first[a];
-        columns[28 + a] = second[a];
-    }
-    Ok(columns)
-}
 
-// The halves of all boxes but the lost one, in rising order, and how many numbers they are.
-fn halves(columns: &[Byte; 32]) -> anyhow::Result<([Byte; 14], usize)> {
-    let mut halves = [Byte(0); 14];
-    let mut taken: usize = 0;
-    for h in 0..BOXES - 1 {
-        let b = if h + 1 < LOST { h } else { h + 1 };
-        let mut numbers = [Byte(0); 2];
-        fits(half(
-            SIZE,
-            LOST,
-            &columns[b * ROWS..b * ROWS + ROWS],
-            &mut numbers,
-        ))?;
-        halves[2 * h] = numbers[0];
-        halves[2 * h + 1] = numbers[1];
-        taken = numbers.len().saturating_add(taken);
+    fn column(&self, number: usize) -> Option<&[Byte]> {
+        self.columns().nth(number.checked_sub(1)?)
     }
-    Ok((halves, taken))
-}
 
-fn print_columns(rt: &impl Print, columns: &[Byte; 32]) -> anyhow::Result<()> {
-    println!(rt;
-        "A cabinet of {DATA_BOXES} data boxes and 2 parity boxes, {ROWS} symbols in each:"
-    )?;
-    for b in 0..BOXES {
-        rt.println(Line {
-            number: b + 1,
-            symbols: &columns[b * ROWS..b * ROWS + ROWS],
-        })?;
-    }
-    Ok(())
-}
-
-fn print_halves(rt: &impl Print, halves: &[Byte; 14]) -> anyhow::Result<()> {
-    println!(rt; "Box {LOST} is lost. The others send their halves:")?;
-    for h in 0..BOXES - 1 {
-        let number = if h + 1 < LOST { h + 1 } else { h + 2 };
-        rt.println(Line {
-            number,
-            symbols: &halves[2 * h..2 * h + 2],
-        })?;
-    }
-    Ok(())
-}
-
-fn equal(a: &[Byte], b: &[Byte]) -> bool {
-    for (x, y) in a.iter().zip(b) {
-        if !x.same(*y) {
-            return false;
+    // What the other boxes send for a lost one: the halves of their columns, in rising order.
+    fn halves(&self, alloc: Global, lost: usize) -> anyhow::Result<Halves> {
+        let mut symbols = Vec::new(alloc);
+        for (number, column) in (1..=BOXES).zip(self.columns()) {
+            if number != lost {
+                let mut sent = [Byte(0); PAIRS];
+                half(SIZE, lost, column, &mut sent)?;
+                symbols.extend_from_slice(&sent)?;
+            }
         }
+        Ok(Halves { lost, symbols })
     }
-    a.len() == b.len()
 }
 
-fn run(rt: &impl Print) -> anyhow::Result<()> {
-    let columns = columns(&file())?;
-    print_columns(rt, &columns)?;
-    let (halves, taken) = halves(&columns)?;
-    print_halves(rt, &halves)?;
-    let mut renewed = [Byte(0); ROWS];
-    fits(restore(SIZE, LOST, &halves, &mut renewed))?;
+impl fmt::Display for Cabinet {
+    fn fmt<W: fmt::Write>(&self, f: &mut fmt::Formatter<W>) -> fmt::Result {
+        writeln!(
+            f,
+            "A cabinet of {DATA_BOXES} data boxes and {PARITIES} parity boxes, {ROWS} symbols in each:"
+        )?;
+        for (number, symbols) in (1..=BOXES).zip(self.columns()) {
+            writeln!(f, "{}", Line { number, symbols })?;
+        }
+        Ok(())
+    }
+}
+
+// The halves that all boxes but the lost one send.
+#[derive(Drop)]
+struct Halves {
+    lost: usize,
+    symbols: Vec<Byte>,
+}
+
+impl Halves {
+    fn renew(&self) -> anyhow::Result<[Byte; ROWS]> {
+        let mut column = [Byte(0); ROWS];
+        restore(SIZE, self.lost, &self.symbols, &mut column)?;
+        Ok(column)
+    }
+}
+
+impl fmt::Display for Halves {
+    fn fmt<W: fmt::Write>(&self, f: &mut fmt::Formatter<W>) -> fmt::Result {
+        let lost = self.lost;
+        writeln!(f, "Box {lost} is lost. The others send their halves:")?;
+        let helpers = (1..=BOXES).filter(|number| *number != lost);
+        for (number, symbols) in helpers.zip(self.symbols.chunks_exact(PAIRS)) {
+            writeln!(f, "{}", Line { number, symbols })?;
+        }
+        Ok(())
+    }
+}
+
+fn run(rt: &(impl Print + AllocGlobal)) -> anyhow::Result<()> {
+    let cabinet = Cabinet::new(rt.alloc(), &LEVELS)?;
+    print!(rt; "{cabinet}")?;
+    let halves = cabinet.halves(rt.alloc(), LOST)?;
+    print!(rt; "{halves}")?;
+    let renewed = halves.renew()?;
     rt.println("Renewed from them:")?;
     rt.println(Line {
         number: LOST,
         symbols: &renewed,
     })?;
-    let lost = &columns[(LOST - 1) * ROWS..LOST * ROWS];
-    let verdict = if equal(&renewed, lost) {
+    rt.println(if cabinet.column(LOST) == Some(&renewed[..]) {
         "It is the lost column."
     } else {
         "It is not the lost column."
-    };
-    rt.println(verdict)?;
-    let whole = DATA_BOXES * ROWS;
-    println!(rt; "Numbers taken: {taken}. Whole columns would have cost {whole}.")?;
+    })?;
+    let taken = halves.symbols.len();
+    println!(rt; "Numbers taken: {taken}. Whole columns would have cost {SYMBOLS}.")?;
     Ok(())
 }
 
