@@ -1,5 +1,5 @@
 // The code against cases worked out by hand.
-ghost use Rattle.std.specs.Prelude.{◌≤◌};
+ghost use Rattle.std.specs.Prelude.{◌<◌, ◌≤◌};
 
 use byte_field::Byte;
 use columns::{add_column, add_image, half, parities, restore};
@@ -36,11 +36,13 @@ fn refused(rt: &impl Abort, answer: Result<(), Refusal>, number: u32) {
 // A file and its two parities.
 #[derive(Drop)]
 struct Cabinet<F> {
+    size: usize,
     // What a buffer holds before it is written.
     blank: F,
     file: Vec<F>,
     first: Vec<F>,
     second: Vec<F>,
+    ghost sized: { size ≤ 6 },
 }
 
 impl<F: Quotients> Cabinet<F> {
@@ -53,6 +55,7 @@ impl<F: Quotients> Cabinet<F> {
         let mut second = vec![in alloc; blank; rows]?;
         parities(size, &file, &mut first, &mut second)?;
         Ok(Cabinet {
+            size,
             blank,
             file,
             first,
@@ -60,20 +63,26 @@ impl<F: Quotients> Cabinet<F> {
         })
     }
 
+    fn rows(&self) -> usize
+        ensures { 0 < result }
+    {
+        1 << self.size
+    }
+
     fn has_parities(&self, rt: &impl Abort, first: &[u32], second: &[u32]) {
         are(rt, &self.first, first);
         are(rt, &self.second, second);
     }
 
-    // The halves of all boxes but the lost one, in rising order, for m = 2.
+    // The halves of all boxes but the lost one, in rising order.
     fn halves(&self, alloc: Global, lost: usize) -> Result<Vec<F>, Fail> {
         let parities = [self.first.as_slice(), self.second.as_slice()];
-        let columns = self.file.chunks_exact(4).chain(parities);
+        let columns = self.file.chunks_exact(self.rows()).chain(parities);
         let mut halves = Vec::new(alloc);
-        for (number, column) in (1..=8).zip(columns) {
+        for (number, column) in (1..).zip(columns) {
             if number != lost {
-                let mut sent = vec![in alloc; self.blank; 2]?;
-                half(2, lost, column, &mut sent)?;
+                let mut sent = vec![in alloc; self.blank; self.rows() / 2]?;
+                half(self.size, lost, column, &mut sent)?;
                 halves.extend_from_slice(&sent)?;
             }
         }
@@ -165,10 +174,10 @@ fn comes_back<F: Quotients + PartialEq + Debug>(
     rt: &(impl Abort + AllocGlobal),
     cabinet: &Cabinet<F>,
 ) -> Result<(), Fail> {
-    for (lost, column) in (1..=6).zip(cabinet.file.chunks_exact(4)) {
+    for (lost, column) in (1..).zip(cabinet.file.chunks_exact(cabinet.rows())) {
         let halves = cabinet.halves(rt.alloc(), lost)?;
-        let mut renewed = vec![in rt.alloc(); cabinet.blank; 4]?;
-        restore(2, lost, &halves, &mut renewed)?;
+        let mut renewed = vec![in rt.alloc(); cabinet.blank; cabinet.rows()]?;
+        restore(cabinet.size, lost, &halves, &mut renewed)?;
         assert_eq!(rt; renewed.as_slice(), column);
     }
     Ok(())

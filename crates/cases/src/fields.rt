@@ -186,39 +186,43 @@ const FOUR_INVERSES: [(u32, u32); 3] = [(1, 1), (2, 3), (3, 2)];
 
 const FOUR_MARKS: [(u32, u32); 3] = [(1, 3), (2, 2), (3, 1)];
 
-fn sums<F: Sums>(rt: &impl Abort, table: &[(u32, u32, u32)]) -> Result<(), Fail> {
+fn symbol<F: Sums>(n: u32) -> Result<F, Fail> {
+    Ok(F::symbol(n).ok_or("no symbol")?)
+}
+
+// What an operation makes of two symbols.
+fn operation<F: Sums, O: Fn(F, F) -> F>(
+    rt: &impl Abort,
+    operate: O,
+    table: &[(u32, u32, u32)],
+) -> Result<(), Fail>
+    requires { O.IsAlwaysCallable operate }
+{
     for (a, b, expected) in table {
-        let x = F::symbol(*a).ok_or("no symbol")?;
-        let y = F::symbol(*b).ok_or("no symbol")?;
-        assert_eq!(rt; x.sum(y).number(), *expected);
+        let made = operate(symbol(*a)?, symbol(*b)?);
+        assert_eq!(rt; made.number(), *expected);
+    }
+    Ok(())
+}
+
+// A sum less one part is the other part, and symbols are the same if their numbers are.
+fn differences<F: Sums>(rt: &impl Abort, table: &[(u32, u32, u32)]) -> Result<(), Fail> {
+    for (a, b, _) in table {
+        let x: F = symbol(*a)?;
+        let y = symbol(*b)?;
         assert_eq!(rt; x.sum(y).sum(y.negative()).number(), *a);
         assert_eq!(rt; x.same(y), *a == *b);
     }
     Ok(())
 }
 
-fn products<F: Sums>(rt: &impl Abort, table: &[(u32, u32, u32)]) -> Result<(), Fail> {
-    for (a, b, expected) in table {
-        let x = F::symbol(*a).ok_or("no symbol")?;
-        let y = F::symbol(*b).ok_or("no symbol")?;
-        assert_eq!(rt; x.product(y).number(), *expected);
+// What is found for a number, by its number.
+fn found<L: Fn(u32) -> Option<u32>>(rt: &impl Abort, find: L, table: &[(u32, u32)])
+    requires { L.IsAlwaysCallable find }
+{
+    for (n, expected) in table {
+        assert_eq!(rt; find(*n), Some(*expected));
     }
-    Ok(())
-}
-
-fn inverses<F: Quotients>(rt: &impl Abort, table: &[(u32, u32)]) -> Result<(), Fail> {
-    for (a, expected) in table {
-        let x = F::symbol(*a).ok_or("no symbol")?;
-        assert_eq!(rt; x.inverse().ok_or("no inverse")?.number(), *expected);
-    }
-    Ok(())
-}
-
-fn marks<F: Sums>(rt: &impl Abort, table: &[(u32, u32)]) -> Result<(), Fail> {
-    for (j, expected) in table {
-        assert_eq!(rt; F::mark(*j).ok_or("no mark")?.number(), *expected);
-    }
-    Ok(())
 }
 
 // Nothing is there outside the marks and from the size up, and zero has no inverse.
@@ -232,43 +236,86 @@ fn edges<F: Quotients>(rt: &impl Abort, count: u32, size: u32) -> Result<(), Fai
     Ok(())
 }
 
+// What a field is held against, by the numbers of symbols.
+#[derive(Drop)]
+struct Tables<'a> {
+    sums: &'a [(u32, u32, u32)],
+    products: &'a [(u32, u32, u32)],
+    inverses: &'a [(u32, u32)],
+    marks: &'a [(u32, u32)],
+    mark_count: u32,
+    size: u32,
+}
+
+impl Tables<'_> {
+    fn hold<F: Quotients>(&self, rt: &impl Abort) -> Result<(), Fail> {
+        operation(rt, F::sum, self.sums)?;
+        differences::<F>(rt, self.sums)?;
+        operation(rt, F::product, self.products)?;
+        found(
+            rt,
+            |a| Some(F::symbol(a)?.inverse()?.number()),
+            self.inverses,
+        );
+        found(rt, |j| Some(F::mark(j)?.number()), self.marks);
+        edges::<F>(rt, self.mark_count, self.size)
+    }
+}
+
 #[test]
 fn five(rt: HostRuntime) -> Result<(), Fail> {
-    sums::<Five>(&rt, &FIVE_SUMS)?;
-    products::<Five>(&rt, &FIVE_PRODUCTS)?;
-    inverses::<Five>(&rt, &FIVE_INVERSES)?;
-    marks::<Five>(&rt, &FIVE_MARKS)?;
-    edges::<Five>(&rt, 4, 5)
+    let tables = Tables {
+        sums: &FIVE_SUMS,
+        products: &FIVE_PRODUCTS,
+        inverses: &FIVE_INVERSES,
+        marks: &FIVE_MARKS,
+        mark_count: 4,
+        size: 5,
+    };
+    tables.hold::<Five>(&rt)
 }
 
 #[test]
 fn four(rt: HostRuntime) -> Result<(), Fail> {
-    sums::<Four>(&rt, &FOUR_SUMS)?;
-    products::<Four>(&rt, &FOUR_PRODUCTS)?;
-    inverses::<Four>(&rt, &FOUR_INVERSES)?;
-    marks::<Four>(&rt, &FOUR_MARKS)?;
-    edges::<Four>(&rt, 3, 4)
+    let tables = Tables {
+        sums: &FOUR_SUMS,
+        products: &FOUR_PRODUCTS,
+        inverses: &FOUR_INVERSES,
+        marks: &FOUR_MARKS,
+        mark_count: 3,
+        size: 4,
+    };
+    tables.hold::<Four>(&rt)
 }
 
 // The first two products are those worked out in FIPS 197.
 #[test]
 fn bytes(rt: HostRuntime) -> Result<(), Fail> {
-    products::<Byte>(&rt, &[(0x57, 0x83, 0xc1), (0x57, 0x13, 0xfe)])?;
-    sums::<Byte>(&rt, &[(0x57, 0x83, 0xd4), (0xff, 0xff, 0x00)])?;
-    products::<Byte>(&rt, &BYTE_PRODUCTS)?;
-    inverses::<Byte>(&rt, &BYTE_INVERSES)?;
-    marks::<Byte>(&rt, &[(1, 1), (128, 128), (255, 255)])?;
-    edges::<Byte>(&rt, 255, 256)
+    operation(
+        &rt,
+        Byte::product,
+        &[(0x57, 0x83, 0xc1), (0x57, 0x13, 0xfe)],
+    )?;
+    let tables = Tables {
+        sums: &[(0x57, 0x83, 0xd4), (0xff, 0xff, 0x00)],
+        products: &BYTE_PRODUCTS,
+        inverses: &BYTE_INVERSES,
+        marks: &[(1, 1), (128, 128), (255, 255)],
+        mark_count: 255,
+        size: 256,
+    };
+    tables.hold::<Byte>(&rt)
 }
 
 #[test]
 fn words(rt: HostRuntime) -> Result<(), Fail> {
-    sums::<Words>(
-        &rt,
-        &[(65536, 65536, 65535), (65536, 1, 0), (40000, 30000, 4463)],
-    )?;
-    products::<Words>(&rt, &WORD_PRODUCTS)?;
-    inverses::<Words>(&rt, &WORD_INVERSES)?;
-    marks::<Words>(&rt, &[(1, 1), (65535, 65535), (65536, 65536)])?;
-    edges::<Words>(&rt, 65536, 65537)
+    let tables = Tables {
+        sums: &[(65536, 65536, 65535), (65536, 1, 0), (40000, 30000, 4463)],
+        products: &WORD_PRODUCTS,
+        inverses: &WORD_INVERSES,
+        marks: &[(1, 1), (65535, 65535), (65536, 65536)],
+        mark_count: 65536,
+        size: 65537,
+    };
+    tables.hold::<Words>(&rt)
 }
