@@ -1,6 +1,7 @@
 // The code against cases worked out by hand.
 ghost use Rattle.std.specs.Prelude.{◌<◌, ◌≤◌};
 
+use crate::fields::symbol;
 use byte_field::Byte;
 use columns::{add_column, add_image, half, parities, restore};
 use field::{Quotients, Sums};
@@ -17,7 +18,7 @@ use std::test::Fail;
 fn symbols<F: Sums>(alloc: Global, numbers: &[u32]) -> Result<Vec<F>, Fail> {
     let mut symbols = Vec::new(alloc);
     for n in numbers {
-        symbols.push(F::symbol(*n).ok_or("no symbol")?)?;
+        symbols.push(symbol(*n)?)?;
     }
     Ok(symbols)
 }
@@ -90,35 +91,55 @@ impl<F: Quotients> Cabinet<F> {
     }
 }
 
-#[test]
-fn small_files(rt: HostRuntime) -> Result<(), Fail> {
-    let alloc = rt.alloc();
-    Cabinet::new(alloc, 1, Five::One, &[1, 2, 3, 4, 0, 1])?.has_parities(&rt, &[4, 2], &[2, 1]);
-    Cabinet::new(alloc, 1, Five::One, &[1, 0, 3, 4, 0, 1])?.has_parities(&rt, &[4, 0], &[1, 4]);
-    Cabinet::new(alloc, 1, Four::One, &[1, 0, 0, 0, 0, 0])?.has_parities(&rt, &[1, 0], &[2, 0]);
-    Cabinet::new(alloc, 1, Four::One, &[0, 1, 0, 0, 0, 0])?.has_parities(&rt, &[0, 1], &[1, 3]);
-    Cabinet::new(alloc, 1, Byte(1), &[0x57, 0x83, 0, 0, 0, 0])?.has_parities(
-        &rt,
-        &[0x57, 0x83],
-        &[0x30, 0x83],
-    );
+// A file for m = 1, and its two parities.
+type Small = ([u32; 6], [u32; 2], [u32; 2]);
+
+fn encodes<F: Quotients>(
+    rt: &(impl Abort + AllocGlobal),
+    blank: F,
+    cases: &[Small],
+) -> Result<(), Fail> {
+    for (file, first, second) in cases {
+        Cabinet::new(rt.alloc(), 1, blank, file)?.has_parities(rt, first, second);
+    }
     Ok(())
 }
 
 #[test]
+fn small_files(rt: HostRuntime) -> Result<(), Fail> {
+    encodes(
+        &rt,
+        Five::One,
+        &[
+            ([1, 2, 3, 4, 0, 1], [4, 2], [2, 1]),
+            ([1, 0, 3, 4, 0, 1], [4, 0], [1, 4]),
+        ],
+    )?;
+    encodes(
+        &rt,
+        Four::One,
+        &[
+            ([1, 0, 0, 0, 0, 0], [1, 0], [2, 0]),
+            ([0, 1, 0, 0, 0, 0], [0, 1], [1, 3]),
+        ],
+    )?;
+    encodes(
+        &rt,
+        Byte(1),
+        &[([0x57, 0x83, 0, 0, 0, 0], [0x57, 0x83], [0x30, 0x83])],
+    )
+}
+
+#[test]
 fn small_words(rt: HostRuntime) -> Result<(), Fail> {
-    let alloc = rt.alloc();
-    Cabinet::new(alloc, 1, Words::Top, &[0, 0, 0, 0, 65536, 1])?.has_parities(
+    encodes(
         &rt,
-        &[65536, 1],
-        &[65536, 2],
-    );
-    Cabinet::new(alloc, 1, Words::Top, &[65536, 65536, 0, 0, 0, 0])?.has_parities(
-        &rt,
-        &[65536, 65536],
-        &[65534, 65536],
-    );
-    Ok(())
+        Words::Top,
+        &[
+            ([0, 0, 0, 0, 65536, 1], [65536, 1], [65536, 2]),
+            ([65536, 65536, 0, 0, 0, 0], [65536, 65536], [65534, 65536]),
+        ],
+    )
 }
 
 // m = 2, zero but for 1 at box 4, row 2.
@@ -133,9 +154,9 @@ fn single_symbol(rt: HostRuntime) -> Result<(), Fail> {
 // The halves 3, 0, 4, 2 of boxes 2 to 5 give box 1, and 3, 2, 1, 3 of the others give box 3.
 #[test]
 fn lost_columns(rt: HostRuntime) -> Result<(), Fail> {
+    let mut column = [Five::Zero; 2];
     for (lost, halves, expected) in [(1, [3, 0, 4, 2], [1, 2]), (3, [3, 2, 1, 3], [0, 1])] {
         let halves: Vec<Five> = symbols(rt.alloc(), &halves)?;
-        let mut column = [Five::Zero; 2];
         restore(1, lost, &halves, &mut column)?;
         are(&rt, &column, &expected);
     }

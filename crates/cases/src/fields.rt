@@ -186,7 +186,8 @@ const FOUR_INVERSES: [(u32, u32); 3] = [(1, 1), (2, 3), (3, 2)];
 
 const FOUR_MARKS: [(u32, u32); 3] = [(1, 3), (2, 2), (3, 1)];
 
-fn symbol<F: Sums>(n: u32) -> Result<F, Fail> {
+// The symbol with a number, where there is one.
+pub(crate) fn symbol<F: Sums>(n: u32) -> Result<F, Fail> {
     Ok(F::symbol(n).ok_or("no symbol")?)
 }
 
