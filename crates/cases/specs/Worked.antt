@@ -1,5 +1,6 @@
 -- Cases of the code worked out by hand, against its definitions. Assumes nothing.
-use Rattle.std.specs.Prelude.{◌≡◌, ℕ, zero, suc, ◌+◌, ◌-◌, ◌*◌, ◌^◌, List, [], ◌∷◌, ◌++◌, replicate, slice_index, slice_set}
+use Rattle.std.specs.List.{concat, range_with_len}
+use Rattle.std.specs.Prelude.{◌≡◌, ℕ, ◌+◌, ◌-◌, ◌*◌, ◌^◌, List, [], ◌∷◌, ◌++◌, map, replicate, slice_index, slice_set}
 use Rattle.std.proofs.Common.{lit<}
 use Rattle.field.specs.Below.{Below}
 use Rattle.field.specs.Numbers.{residue}
@@ -12,8 +13,7 @@ use Rattle.four.specs.Four.{four_symbols}
 
 -- f 0 to f (n - 1)
 abbrev pub listed : {X : Type 0} → ℕ → (ℕ → X) → List X
-listed zero f = []
-listed (suc n) f = listed n f ++ f n ∷ []
+listed n f = map f (range_with_len 0 n)
 
 -- symbols go in and out by their numbers
 module _ (Y : Symbols) (symbol : ℕ → Y.Symbol) where
@@ -29,8 +29,7 @@ module _ (Y : Symbols) (symbol : ℕ → Y.Symbol) where
   parities m xs = numbers (2 ^ m) (parity1 (full Y m) (boxes m xs)) ++ numbers (2 ^ m) (parity2 (full Y m) (boxes m xs))
 
   abbrev pub joined : List (List ℕ) → List ℕ
-  joined [] = []
-  joined (xs ∷ xss) = xs ++ joined xss
+  joined = concat
 
   -- what the helpers send for the lost box in place x, in rising order
   abbrev pub sent : ℕ → ℕ → List ℕ → List ℕ
