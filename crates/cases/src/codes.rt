@@ -17,16 +17,16 @@ use std::test::Fail;
 // Symbols by their numbers.
 fn symbols<F: Sums>(alloc: Global, numbers: &[u32]) -> Result<Vec<F>, Fail> {
     let mut symbols = Vec::new(alloc);
-    for n in numbers {
-        symbols.push(symbol(*n)?)?;
+    for &n in numbers {
+        symbols.push(symbol(n)?)?;
     }
     Ok(symbols)
 }
 
 fn are<F: Sums>(rt: &impl Abort, symbols: &[F], numbers: &[u32]) {
     assert_eq!(rt; symbols.len(), numbers.len());
-    for (symbol, n) in symbols.iter().zip(numbers) {
-        assert_eq!(rt; symbol.number(), *n);
+    for (symbol, &n) in symbols.iter().zip(numbers) {
+        assert_eq!(rt; symbol.number(), n);
     }
 }
 
@@ -91,7 +91,7 @@ impl<F: Quotients> Cabinet<F> {
     }
 }
 
-// A file for m = 1, and its two parities.
+// A file for m = 1, and its two parities, by numbers.
 type Small = ([u32; 6], [u32; 2], [u32; 2]);
 
 fn encodes<F: Quotients>(

@@ -199,20 +199,20 @@ fn operation<F: Sums, O: Fn(F, F) -> F>(
 ) -> Result<(), Fail>
     requires { O.IsAlwaysCallable operate }
 {
-    for (a, b, expected) in table {
-        let made = operate(symbol(*a)?, symbol(*b)?);
-        assert_eq!(rt; made.number(), *expected);
+    for &(a, b, expected) in table {
+        let made = operate(symbol(a)?, symbol(b)?);
+        assert_eq!(rt; made.number(), expected);
     }
     Ok(())
 }
 
 // A sum less one part is the other part, and symbols are the same if their numbers are.
 fn differences<F: Sums>(rt: &impl Abort, table: &[(u32, u32, u32)]) -> Result<(), Fail> {
-    for (a, b, _) in table {
-        let x: F = symbol(*a)?;
-        let y = symbol(*b)?;
-        assert_eq!(rt; x.sum(y).sum(y.negative()).number(), *a);
-        assert_eq!(rt; x.same(y), *a == *b);
+    for &(a, b, _) in table {
+        let x: F = symbol(a)?;
+        let y = symbol(b)?;
+        assert_eq!(rt; x.sum(y).sum(y.negative()).number(), a);
+        assert_eq!(rt; x.same(y), a == b);
     }
     Ok(())
 }
@@ -221,8 +221,8 @@ fn differences<F: Sums>(rt: &impl Abort, table: &[(u32, u32, u32)]) -> Result<()
 fn found<L: Fn(u32) -> Option<u32>>(rt: &impl Abort, find: L, table: &[(u32, u32)])
     requires { L.IsAlwaysCallable find }
 {
-    for (n, expected) in table {
-        assert_eq!(rt; find(*n), Some(*expected));
+    for &(n, expected) in table {
+        assert_eq!(rt; find(n), Some(expected));
     }
 }
 

@@ -61,6 +61,7 @@ struct Cabinet {
 }
 
 impl Cabinet {
+    // Keeps levels, and beside them the parities that are worked out from them.
     fn new(alloc: Global, levels: &[u8]) -> anyhow::Result<Cabinet> {
         let mut symbols: Vec<Byte> = levels.iter().copied().map(Byte).collect(alloc)?;
         let mut first = [Byte(0); ROWS];
@@ -116,6 +117,7 @@ struct Halves {
 }
 
 impl Halves {
+    // The lost column.
     fn renew(&self) -> anyhow::Result<[Byte; ROWS]> {
         let mut column = [Byte(0); ROWS];
         restore(SIZE, self.lost, &self.symbols, &mut column)?;
