@@ -217,7 +217,7 @@ fn differences<F: Sums>(rt: &impl Abort, table: &[(u32, u32, u32)]) -> Result<()
     Ok(())
 }
 
-// What is found for a number, by its number.
+// What is found for a number, by its number: a closure whose result alone names the field gets no proof.
 fn found<L: Fn(u32) -> Option<u32>>(rt: &impl Abort, find: L, table: &[(u32, u32)])
     requires { L.IsAlwaysCallable find }
 {
