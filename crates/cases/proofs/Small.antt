@@ -14,7 +14,7 @@ small_proper = proper five_symbols 1 (lit≤ tt) (lit≤ tt)
 rows : (P : ℕ → Type 0) → P 0 → P 1 → (a : ℕ) → a < 2 → P a
 rows P p q = below_more P 1 (below_more P 0 (below_none P) p) q
 
--- the difference of the two eigenvalues is 3, whose inverse is 2; two proofs, since each refl computes at its own box
+-- the difference of the two eigenvalues is 3, whose inverse is 2; a lemma for both would have to spell out what each refl computes
 pub box_1 : Gives five_symbols five 0 (3 ∷ 0 ∷ 4 ∷ 2 ∷ []) (1 ∷ 2 ∷ [])
 box_1 = recovered_given (full five_symbols 1) small_proper 0 (lit< tt) (five 2) (same_below _ _ refl) _ _ (rows _ (same_below _ _ refl) (same_below _ _ refl))
 
