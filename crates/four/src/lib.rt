@@ -2,13 +2,13 @@
 #![tactic(auto)]
 
 ghost use Rattle.std.specs.Int.Bits.{bit_xor};
-ghost use Rattle.std.specs.Prelude.{◌≡◌, ◌<◌};
+ghost use Rattle.std.specs.Prelude.{◌≡◌, ◌<◌, refl};
 ghost use Rattle.field.specs.Numbers.{NumberOf};
 ghost use Rattle.four.specs.Four.{four_number, four_of, four_symbols, four_value, inverse as reciprocal, product as tabled};
 
 use field::{Quotients, Sums};
 
-#[derive(Clone, Copy)]
+#[derive(Clone, Copy, Debug, PartialEq, Eq)]
 pub enum Four {
     Zero,
     One,
@@ -71,9 +71,15 @@ fn invert(a: u8) -> u8
 impl Sums for Four {
     const MARKS: u32 = 3;
 
+    ghost MARKS = { 3 };
+
     ghost symbols = { four_symbols };
 
     ghost value = { four_value };
+
+    ghost of_number = { four_of };
+
+    ghost marks_agree = { refl };
 
     fn zero() -> Four {
         Four::Zero
@@ -96,10 +102,6 @@ impl Sums for Four {
         from_number(multiply(to_number(self), to_number(other)))
     }
 
-    fn same(self, other: Four) -> bool {
-        to_number(self) == to_number(other)
-    }
-
     fn number(self) -> u32 {
         to_number(self) as u32
     }
@@ -110,10 +112,6 @@ impl Sums for Four {
         } else {
             None
         }
-    }
-
-    fn mark_count() -> u32 {
-        Self::MARKS
     }
 
     fn mark(j: u32) -> Option<Four> {

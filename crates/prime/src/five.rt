@@ -1,12 +1,12 @@
 // Five: the integers modulo 5.
-ghost use Rattle.std.specs.Prelude.{◌≡◌, ◌<◌};
+ghost use Rattle.std.specs.Prelude.{◌≡◌, ◌<◌, refl};
 ghost use Rattle.field.specs.Numbers.{NumberOf};
 ghost use Rattle.prime.specs.Five.{five_number, five_of, five_symbols, five_value};
 
 use crate::modulo;
 use field::{Quotients, Sums};
 
-#[derive(Clone, Copy)]
+#[derive(Clone, Copy, Debug, PartialEq, Eq)]
 pub enum Five {
     Zero,
     One,
@@ -47,9 +47,15 @@ fn to_number(s: Five) -> u32
 impl Sums for Five {
     const MARKS: u32 = 4;
 
+    ghost MARKS = { 4 };
+
     ghost symbols = { five_symbols };
 
     ghost value = { five_value };
+
+    ghost of_number = { five_of };
+
+    ghost marks_agree = { refl };
 
     fn zero() -> Five {
         Five::Zero
@@ -71,20 +77,12 @@ impl Sums for Five {
         from_number(modulo::product(SIZE, to_number(self), to_number(other)))
     }
 
-    fn same(self, other: Five) -> bool {
-        to_number(self) == to_number(other)
-    }
-
     fn number(self) -> u32 {
         to_number(self)
     }
 
     fn symbol(n: u32) -> Option<Five> {
         if n < SIZE { Some(from_number(n)) } else { None }
-    }
-
-    fn mark_count() -> u32 {
-        Self::MARKS
     }
 
     fn mark(j: u32) -> Option<Five> {

@@ -1,5 +1,5 @@
 // Words: the integers modulo 65537, one more than fit in 16 bits.
-ghost use Rattle.std.specs.Prelude.{◌≡◌, ◌<◌};
+ghost use Rattle.std.specs.Prelude.{◌≡◌, ◌<◌, refl};
 ghost use Rattle.field.specs.Numbers.{NumberOf};
 ghost use Rattle.prime.specs.Words.{word_number, word_of, word_symbols, word_value};
 
@@ -7,7 +7,7 @@ use crate::modulo;
 use field::{Quotients, Sums};
 
 // Top is 65536.
-#[derive(Clone, Copy)]
+#[derive(Clone, Copy, Debug, PartialEq, Eq)]
 pub enum Words {
     Low(u16),
     Top,
@@ -38,9 +38,15 @@ fn to_number(w: Words) -> u32
 impl Sums for Words {
     const MARKS: u32 = 65536;
 
+    ghost MARKS = { 65536 };
+
     ghost symbols = { word_symbols };
 
     ghost value = { word_value };
+
+    ghost of_number = { word_of };
+
+    ghost marks_agree = { refl };
 
     fn zero() -> Words {
         Words::Low(0)
@@ -62,20 +68,12 @@ impl Sums for Words {
         from_number(modulo::product(SIZE, to_number(self), to_number(other)))
     }
 
-    fn same(self, other: Words) -> bool {
-        to_number(self) == to_number(other)
-    }
-
     fn number(self) -> u32 {
         to_number(self)
     }
 
     fn symbol(n: u32) -> Option<Words> {
         if n < SIZE { Some(from_number(n)) } else { None }
-    }
-
-    fn mark_count() -> u32 {
-        Self::MARKS
     }
 
     fn mark(j: u32) -> Option<Words> {
