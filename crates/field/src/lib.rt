@@ -5,6 +5,9 @@ ghost use Rattle.std.specs.Prelude.{◌≡◌, ℕ, ◌<◌, ◌≤◌, IsTrue, 
 ghost use Rattle.field.specs.Ring.{Divides};
 ghost use Rattle.field.specs.Symbols.{Symbols};
 
+mod modulo;
+pub mod residue;
+
 // A field as far as its sums and products go, with its marks (the constants
 // that the code is built from) and the number of each symbol.
 pub trait Sums: Copy {
