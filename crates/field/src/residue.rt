@@ -1,4 +1,6 @@
 // The field of the integers modulo a prime, one text for every prime.
+#![tactic(auto, using(crate::proofs::Residues::residue_again, crate::proofs::Residues::settled))]
+
 ghost use Rattle.std.specs.Prelude.{◌≡◌, ℕ, ◌-◌, ◌^◌, ◌<◌, ◌≤◌};
 ghost use Rattle.field.specs.Marks.{Marks};
 ghost use Rattle.field.specs.Numbers.{NumberOf, residue};
