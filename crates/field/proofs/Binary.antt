@@ -29,24 +29,20 @@ module _ (n : ℕ) (f : ℕ → ℕ → ℕ) (inverse : ℕ → ℕ) (t : Invert
         | inr e ↦ eqb→eq (f a (inverse a)) 1 e
       ]
 
--- m, n and r are numbers that the program holds, and a, b and y those of its symbols
+-- a, b and r are the numbers of the symbols that the program holds
 module _ (k : ℕ) (big : 1 < 2 ^ k) (f : ℕ → ℕ → ℕ) (o : Product k f) where
-  pub sum_stands : (r m n a b : ℕ) → r ≡ bit_xor m n → m ≡ a → n ≡ b → residue (2 ^ k) big r ≡ (binary k big f o).plus (residue (2 ^ k) big a) (residue (2 ^ k) big b)
-  sum_stands r m n a b e e₁ e₂ = same_below _ _ (ap (λ n. n % 2 ^ k) (e ∙ (λ i. bit_xor (e₁ i) (e₂ i))) ∙ xor_mod a b k)
+  pub sum_stands : (r a b : ℕ) → r ≡ bit_xor a b → residue (2 ^ k) big r ≡ (binary k big f o).plus (residue (2 ^ k) big a) (residue (2 ^ k) big b)
+  sum_stands r a b e = same_below _ _ (ap (λ n. n % 2 ^ k) e ∙ xor_mod a b k)
 
-  pub product_stands : (r m n a b : ℕ) → r ≡ f m n → m ≡ a → n ≡ b → m < 2 ^ k → n < 2 ^ k → residue (2 ^ k) big r ≡ (binary k big f o).times (residue (2 ^ k) big a) (residue (2 ^ k) big b)
-  product_stands r m n a b e e₁ e₂ h₁ h₂ =
+  pub product_stands : (r a b : ℕ) → r ≡ f a b → a < 2 ^ k → b < 2 ^ k → residue (2 ^ k) big r ≡ (binary k big f o).times (residue (2 ^ k) big a) (residue (2 ^ k) big b)
+  product_stands r a b e h₁ h₂ =
       same_below _ _
-      (ap (λ n. n % 2 ^ k) e ∙ mod-eq_of_lt (o.below (m, h₁) (n, h₂))
-      ∙ (λ i. f ((sym (mod-eq_of_lt h₁) ∙ ap (λ n. n % 2 ^ k) e₁) i) ((sym (mod-eq_of_lt h₂) ∙ ap (λ n. n % 2 ^ k) e₂) i)))
+      (ap (λ n. n % 2 ^ k) e ∙ mod-eq_of_lt (o.below (a, h₁) (b, h₂)) ∙ (λ i. f (sym (mod-eq_of_lt h₁) i) (sym (mod-eq_of_lt h₂) i)))
 
-  module _ (inverse : ℕ → ℕ) (t : Inverted (2 ^ k) f inverse) where
-    pub inverse_stands : (n y a : ℕ) → y ≡ inverse n → n ≡ a → n < 2 ^ k → 0 < n → (binary k big f o).times (residue (2 ^ k) big a) (residue (2 ^ k) big y) ≡ residue (2 ^ k) big 1
-    inverse_stands n y a e e₁ h some =
-        sym (product_stands (f n (inverse n)) n (inverse n) a y refl e₁ (sym e) h (inverse_below (2 ^ k) f inverse t n h))
-        ∙ ap (residue (2 ^ k) big) (inverts (2 ^ k) f inverse t n h some)
+  pub inverse_stands : (a b : ℕ) → f a b ≡ 1 → a < 2 ^ k → b < 2 ^ k → (binary k big f o).times (residue (2 ^ k) big a) (residue (2 ^ k) big b) ≡ residue (2 ^ k) big 1
+  inverse_stands a b e h₁ h₂ = sym (product_stands 1 a b (sym e) h₁ h₂)
 
-    pub binary_divides : Divides (binary k big f o)
-    binary_divides =
-        divides (2 ^ k) big (binary k big f o) refl
-        (λ x some. ((inverse x.0, inverse_below (2 ^ k) f inverse t x.0 x.1), same_below _ _ (inverts (2 ^ k) f inverse t x.0 x.1 some ∙ sym (mod-eq_of_lt big))))
+  pub binary_divides : (inverse : ℕ → ℕ) → Inverted (2 ^ k) f inverse → Divides (binary k big f o)
+  binary_divides inverse t =
+      divides (2 ^ k) big (binary k big f o) refl
+      (λ x some. ((inverse x.0, inverse_below (2 ^ k) f inverse t x.0 x.1), same_below _ _ (inverts (2 ^ k) f inverse t x.0 x.1 some ∙ sym (mod-eq_of_lt big))))

@@ -1,7 +1,8 @@
 -- Inverses modulo a prime. Assumes nothing.
 use Rattle.std.proofs.Common.{◌≡◌, ℕ, zero, suc, ◌+◌, ◌-◌, ◌*◌, ◌/◌, ◌%◌, ◌^◌, ◌<◌, ◌≤◌, ◌⊎◌, sym, ap, ◌∙◌, subst, inl, inr, mul-le-mul_right, mod-lt, mod-eq_of_lt, mul_assoc, mul_comm, add-mul, eq-zero-or-pos, eq-or-lt_of_le, one-mul, mul-one, div-le_self, add-one, arith}
+use Rattle.std.proofs.lemmas.Nat.{mul-mod_first, mul-mod_second}
 use native.Mathlib.Nat.{div-add-mod, add-mod_left, add-mod_right, mul-add-mod_self_left, pow-succ'}
-use Rattle.field.specs.Residues.{Halved, Prime, mod_mul_mod, mul_mod_mod}
+use Rattle.field.specs.Residues.{Halved, Prime}
 
 -- p is q·a and a remainder, so the remainder is p − q times a
 pub remainder : (p a : ℕ) → 0 < a → a ≤ p → ((p - p / a) * a) % p ≡ p % a
@@ -35,7 +36,7 @@ lacking p a pos some h =
 chained : (p f m x a b : ℕ) → (f * x) % p ≡ a → (m * a) % p ≡ b → (((f * m) % p) * x) % p ≡ b
 chained p f m x a b e e' =
     let swap : f * m * x ≡ m * (f * x) = ap (λ n. n * x) (mul_comm f m) ∙ mul_assoc m f x in
-    mod_mul_mod (f * m) x p ∙ ap (λ n. n % p) swap ∙ sym (mul_mod_mod m (f * x) p) ∙ ap (λ n. (m * n) % p) e ∙ e'
+    mul-mod_first (f * m) x p ∙ ap (λ n. n % p) swap ∙ sym (mul-mod_second m (f * x) p) ∙ ap (λ n. (m * n) % p) e ∙ e'
 
 -- a prime leaves a remainder
 pub remainder_positive : (p a : ℕ) → Prime p → 1 < a → a < p → 0 < p % a
@@ -77,7 +78,7 @@ module _ (p : ℕ) (prime : Prime p) where
             let y = found.0 in
             let swap : a * (m * y) ≡ m * a * y = sym (mul_assoc a m y) ∙ ap (λ k. k * y) (mul_comm a m) in
             let le : a ≤ p = omega arith in
-            (m * y, ap (λ k. k % p) swap ∙ sym (mod_mul_mod (m * a) y p) ∙ ap (λ k. (k * y) % p) (remainder p a pos le) ∙ found.1)
+            (m * y, ap (λ k. k % p) swap ∙ sym (mul-mod_first (m * a) y p) ∙ ap (λ k. (k * y) % p) (remainder p a pos le) ∙ found.1)
       ]
 
   -- every number from 1 below a prime has an inverse

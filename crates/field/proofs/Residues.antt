@@ -1,9 +1,10 @@
 -- From the numbers that the arithmetic gives to the symbols that they stand for, modulo any p. Assumes nothing.
 use Rattle.std.proofs.Common.{◌≡◌, ℕ, ◌%◌, ◌<◌, sym, refl, ap, ◌∙◌, mod-eq_of_lt}
+use Rattle.std.proofs.lemmas.Nat.{mul-mod_second}
 use native.Mathlib.Nat.{mod-mod}
 use Rattle.field.specs.Below.{same_below}
 use Rattle.field.specs.Numbers.{residue}
-use Rattle.field.specs.Residues.{Prime, modular, mul_mod_mod}
+use Rattle.field.specs.Residues.{Prime, modular}
 use Rattle.field.specs.Ring.{Divides}
 use Rattle.field.proofs.Inverses.{inverse_of}
 use Rattle.field.proofs.Values.{divides}
@@ -20,4 +21,4 @@ residue_again p big n = same_below _ _ (mod-mod n p)
 pub inverts : (p : ℕ) (big : 1 < p) → Prime p → Divides (modular p big)
 inverts p big prime =
     divides p big (modular p big) refl
-    (λ x some. let found = inverse_of p prime x.0 some x.1 in (residue p big found.0, same_below _ _ (mul_mod_mod x.0 found.0 p ∙ found.1 ∙ sym (mod-eq_of_lt big))))
+    (λ x some. let found = inverse_of p prime x.0 some x.1 in (residue p big found.0, same_below _ _ (mul-mod_second x.0 found.0 p ∙ found.1 ∙ sym (mod-eq_of_lt big))))

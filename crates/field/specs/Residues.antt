@@ -1,7 +1,8 @@
 -- The integers modulo p, for any p above 1: their ring laws, once. Assumes nothing.
-use Rattle.std.specs.Prelude.{◌≡◌, ℕ, ◌+◌, ◌-◌, ◌*◌, ◌/◌, ◌%◌, ◌<◌, ◌≤◌, ◌≢◌, refl}
-use Rattle.std.proofs.Common.{sym, ◌∙◌, ap, add_comm, add_assoc, mul_comm, mul_assoc, mul-add, add-mul, zero-add, one-mul, mod-eq_of_lt, arith}
-use Rattle.std.proofs.Math.Nat.{zero-mod, mod_self, mod-add-mod, add-mod-mod, add-mod, mod-add-div, add-mul-mod_self_left}
+use Rattle.std.specs.Prelude.{◌≡◌, ℕ, ◌+◌, ◌-◌, ◌*◌, ◌%◌, ◌<◌, ◌≤◌, ◌≢◌, refl}
+use Rattle.std.proofs.Common.{sym, ◌∙◌, ap, add_comm, add_assoc, mul_comm, mul_assoc, mul-add, zero-add, one-mul, mod-eq_of_lt, arith}
+use Rattle.std.proofs.Math.Nat.{zero-mod, mod_self, mod-add-mod, add-mod-mod, add-mod}
+use Rattle.std.proofs.lemmas.Nat.{mul-mod_first, mul-mod_second}
 use Rattle.field.specs.Below.{Below, same_below}
 use Rattle.field.specs.Marks.{Marks}
 use Rattle.field.specs.Numbers.{numbers, residue}
@@ -19,16 +20,6 @@ pub record Halved (p a f b g : ℕ) : Type 0 where
   pub below : g < p
   pub takes : (x : ℕ) → (f * x) % p ≡ a → (g * x) % p ≡ b
 
--- a factor may be reduced first
-pub mod_mul_mod : (a b p : ℕ) → (a % p * b) % p ≡ (a * b) % p
-mod_mul_mod a b p =
-    sym
-    (ap (λ n. (n * b) % p) (sym (mod-add-div a p)) ∙ ap (λ n. n % p) (add-mul (a % p) (p * (a / p)) b ∙ ap (λ n. a % p * b + n) (mul_assoc p (a / p) b))
-    ∙ add-mul-mod_self_left (a % p * b) p (a / p * b))
-
-pub mul_mod_mod : (a b p : ℕ) → (a * (b % p)) % p ≡ (a * b) % p
-mul_mod_mod a b p = ap (λ n. n % p) (mul_comm a (b % p)) ∙ mod_mul_mod b a p ∙ ap (λ n. n % p) (mul_comm b a)
-
 module _ (p : ℕ) (big : 1 < p) where
   abbrev pub modular : Ring (Below p)
   modular = record {
@@ -42,9 +33,9 @@ module _ (p : ℕ) (big : 1 < p) where
     zero_plus = λ x. same_below _ _ (mod-add-mod 0 p x.0 ∙ ap (λ n. n % p) (zero-add x.0) ∙ mod-eq_of_lt x.1);
     plus_negative = λ x. same_below _ _ (add-mod-mod x.0 (p - x.0) p ∙ ap (λ n. n % p) (let h : x.0 < p = x.1 in let e : x.0 + (p - x.0) ≡ p = omega arith in e) ∙ mod_self p ∙ sym (zero-mod p));
     times_comm = λ x y. same_below _ _ (ap (λ n. n % p) (mul_comm x.0 y.0));
-    times_assoc = λ x y z. same_below _ _ (mod_mul_mod (x.0 * y.0) z.0 p ∙ ap (λ n. n % p) (mul_assoc x.0 y.0 z.0) ∙ sym (mul_mod_mod x.0 (y.0 * z.0) p));
-    one_times = λ x. same_below _ _ (mod_mul_mod 1 x.0 p ∙ ap (λ n. n % p) (one-mul x.0) ∙ mod-eq_of_lt x.1);
-    times_plus = λ x y z. same_below _ _ (mul_mod_mod x.0 (y.0 + z.0) p ∙ ap (λ n. n % p) (mul-add x.0 y.0 z.0) ∙ add-mod (x.0 * y.0) (x.0 * z.0) p);
+    times_assoc = λ x y z. same_below _ _ (mul-mod_first (x.0 * y.0) z.0 p ∙ ap (λ n. n % p) (mul_assoc x.0 y.0 z.0) ∙ sym (mul-mod_second x.0 (y.0 * z.0) p));
+    one_times = λ x. same_below _ _ (mul-mod_first 1 x.0 p ∙ ap (λ n. n % p) (one-mul x.0) ∙ mod-eq_of_lt x.1);
+    times_plus = λ x y z. same_below _ _ (mul-mod_second x.0 (y.0 + z.0) p ∙ ap (λ n. n % p) (mul-add x.0 y.0 z.0) ∙ add-mod (x.0 * y.0) (x.0 * z.0) p);
   }
 
   abbrev pub integers : Marks p → Symbols
