@@ -54,11 +54,10 @@ fn chosen(b: u8, d: u8) -> u8
 fn times(a: u8, b: u8) -> u8
     ensures { result ≡ product_of a b }
 {
-    let doubles = doublings(a);
     let mut sum = 0;
     let mut rest = b;
-    for k in 0..8 {
-        sum ^= chosen(rest, doubles[k]);
+    for double in doublings(a) {
+        sum ^= chosen(rest, double);
         rest /= 2;
     }
     sum
@@ -120,19 +119,15 @@ impl Sums for Byte {
     }
 
     fn number(self) -> u32 {
-        self.0 as u32
+        u32::from(self.0)
     }
 
     fn symbol(n: u32) -> Option<Byte> {
-        if n < 256 { Some(Byte(n as u8)) } else { None }
+        u8::try_from(n).ok().map(Byte)
     }
 
     fn mark(j: u32) -> Option<Byte> {
-        if 1 <= j && j <= Self::MARKS {
-            Some(Byte(j as u8))
-        } else {
-            None
-        }
+        if j == 0 { None } else { Self::symbol(j) }
     }
 }
 

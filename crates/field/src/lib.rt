@@ -1,7 +1,7 @@
 // Fields in two steps: sums, and quotients built on them.
 #![tactic(auto)]
 
-ghost use Rattle.std.specs.Prelude.{◌≡◌, ℕ, ◌<◌, ◌≤◌, IsTrue, IsSome, MatchOption};
+ghost use Rattle.std.specs.Prelude.{◌≡◌, ℕ, ◌≤◌, IsTrue, MatchOption};
 ghost use Rattle.field.specs.Ring.{Divides};
 ghost use Rattle.field.specs.Symbols.{Symbols};
 
