@@ -1,32 +1,33 @@
 -- Values in a ring whose sum is exclusive or, and its inverses by one computed test. Assumes nothing.
-use Rattle.std.proofs.Common.{◌≡◌, ℕ, ◌%◌, ◌^◌, ◌<◌, Bool, T, eqb, ltb, sym, refl, ap, ◌∙◌, inl, inr, mod-eq_of_lt, arith, lit<, eqb→eq}
+use Rattle.std.proofs.Common.{◌≡◌, ℕ, ◌%◌, ◌^◌, ◌<◌, Bool, IsTrue, ◌&&◌, ◌||◌, ◌==◌, nat_lt, sym, refl, ap, ◌∙◌, inl, inr, mod-eq_of_lt, arith}
+use Rattle.std.proofs.lemmas.Bool.{and_parts, or_cases, ltb-true, eqb-true}
 use lib.Bits.{bit_xor, xor_mod}
 use Rattle.field.specs.Below.{same_below}
 use Rattle.field.specs.Binary.{Product, binary}
-use Rattle.field.specs.Computed.{all, all_at, both, both_left, both_right, either, one_of}
+use Rattle.field.specs.Computed.{all, all_at}
 use Rattle.field.specs.Numbers.{residue}
 use Rattle.field.specs.Ring.{Divides}
 use Rattle.field.proofs.Values.{divides}
 
 -- the inverse of a is below n, and a is 0 or gives 1 with it
 abbrev inverted : (n : ℕ) (f : ℕ → ℕ → ℕ) (inverse : ℕ → ℕ) → ℕ → Bool
-inverted n f inverse a = both (ltb (inverse a) n) (either (eqb a 0) (eqb (f a (inverse a)) 1))
+inverted n f inverse a = nat_lt (inverse a) n && (a == 0 || f a (inverse a) == 1)
 
 abbrev pub Inverted : (n : ℕ) (f : ℕ → ℕ → ℕ) (inverse : ℕ → ℕ) → Type 0
-Inverted n f inverse = T (all (inverted n f inverse) n)
+Inverted n f inverse = IsTrue (all (inverted n f inverse) n)
 
 module _ (n : ℕ) (f : ℕ → ℕ → ℕ) (inverse : ℕ → ℕ) (t : Inverted n f inverse) (a : ℕ) (low : a < n) where
-  at : T (inverted n f inverse a)
-  at = all_at (inverted n f inverse) n t a low
+  parts : IsTrue (nat_lt (inverse a) n) × IsTrue (a == 0 || f a (inverse a) == 1)
+  parts = and_parts _ _ (all_at (inverted n f inverse) n t a low)
 
   pub inverse_below : inverse a < n
-  inverse_below = lit< (both_left (ltb (inverse a) n) _ at)
+  inverse_below = ltb-true _ _ parts.0
 
   pub inverts : 0 < a → f a (inverse a) ≡ 1
   inverts some =
-      elim (one_of (eqb a 0) (eqb (f a (inverse a)) 1) (both_right (ltb (inverse a) n) _ at)) [
-        | inl z ↦ let e : a ≡ 0 = eqb→eq a 0 z in absurd (omega arith)
-        | inr e ↦ eqb→eq (f a (inverse a)) 1 e
+      elim (or_cases (a == 0) (f a (inverse a) == 1) parts.1) [
+        | inl z ↦ let e : a ≡ 0 = eqb-true a 0 z in absurd (omega arith)
+        | inr e ↦ eqb-true (f a (inverse a)) 1 e
       ]
 
 -- a, b and r are the numbers of the symbols that the program holds

@@ -1,5 +1,5 @@
 -- The field of five: the integers modulo 5, with the marks 1, 4, 2, 3. Assumes nothing.
-use Rattle.std.specs.Prelude.{ℕ, ◌<◌, if◌then◌else◌, [], ◌∷◌, nat_lt}
+use Rattle.std.specs.Prelude.{ℕ, ◌<◌, if◌then◌else◌, [], ◌∷◌, nat_lt, refl}
 use Rattle.std.proofs.Common.{lit<}
 use Rattle.field.specs.Below.{Below}
 use Rattle.field.specs.Marks.{Marks, listed}
@@ -24,7 +24,7 @@ pub above_one : 1 < 5
 above_one = lit< tt
 
 abbrev pub five_marks : Marks 5
-five_marks = listed 5 (1 ∷ 4 ∷ 2 ∷ 3 ∷ []) tt
+five_marks = listed 5 (1 ∷ 4 ∷ 2 ∷ 3 ∷ []) refl
 
 abbrev pub five_symbols : Symbols
 five_symbols = integers 5 above_one five_marks
