@@ -1,7 +1,8 @@
 -- The product of bytes is the remainder of the product of polynomials: both are linear in each factor, and so is the
 -- quotient, so that a computed test at the powers of two is enough. Assumes nothing.
 use Rattle.std.proofs.Common.{◌≡◌, ℕ, zero, suc, ◌*◌, ◌/◌, ◌%◌, ◌<◌, List, [], ◌∷◌, refl, ap, ◌∙◌, ap₂}
-use lib.Bits.{bit_xor, xor_shr}
+use Rattle.std.specs.Int.Bits.{bit_xor}
+use Rattle.std.proofs.lemmas.Nat.{xor_shr}
 use Rattle.byte_field.specs.Linear.{Linear, Tested, agree_both, after, by_left, by_right, picked_sum, twice_sum, pick_right, xor_swap, xor_twice, xor_odd, product_below}
 use Rattle.byte_field.specs.Polynomials.{shifts, times, modulus, Products}
 use Rattle.byte_field.specs.Product.{pick, twice, picked, product}

@@ -1,6 +1,6 @@
 -- The loops of the product and of the inverse. Assumes nothing.
 use Rattle.std.proofs.Common.{◌≡◌, ℕ, suc, ◌+◌, ◌-◌, ◌/◌, ◌%◌, ◌<◌, ◌≤◌, List, [], ◌∷◌, ◌++◌, length, slice_index, take, drop, slice_set, sym, ap, ◌∙◌, refl, append_assoc, append-nil, add-one, arith, length-set, take_all, drop-cons}
-use lib.Bits.{bit_xor, xor_assoc, xor_zero_r}
+use Rattle.std.specs.Int.Bits.{bit_xor, xor_assoc, xor_zero_r}
 use Rattle.std.proofs.lemmas.List.{take_more_set, drop_all}
 use Rattle.field.proofs.Binary.{Inverted}
 use Rattle.byte_field.specs.Product.{pick, twice, doublings, picked, product, squares, inverse}

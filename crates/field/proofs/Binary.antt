@@ -1,7 +1,7 @@
 -- Values in a ring whose sum is exclusive or, and its inverses by one computed test. Assumes nothing.
-use Rattle.std.proofs.Common.{◌≡◌, ℕ, ◌%◌, ◌^◌, ◌<◌, Bool, IsTrue, ◌&&◌, ◌||◌, ◌==◌, nat_lt, sym, refl, ap, ◌∙◌, inl, inr, mod-eq_of_lt, arith}
+use Rattle.std.proofs.Common.{◌≡◌, ℕ, ◌%◌, ◌^◌, ◌<◌, bit_xor, Bool, IsTrue, ◌&&◌, ◌||◌, ◌==◌, nat_lt, sym, refl, ap, ◌∙◌, inl, inr, mod-eq_of_lt, arith}
 use Rattle.std.proofs.lemmas.Bool.{and_parts, or_cases, ltb-true, eqb-true}
-use lib.Bits.{bit_xor, xor_mod}
+use Rattle.std.proofs.lemmas.Nat.{xor_mod}
 use Rattle.field.specs.Below.{same_below}
 use Rattle.field.specs.Binary.{Product, binary}
 use Rattle.field.specs.Computed.{all, all_at}

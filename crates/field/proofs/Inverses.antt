@@ -1,7 +1,7 @@
 -- Inverses modulo a prime. Assumes nothing.
 use Rattle.std.proofs.Common.{◌≡◌, ℕ, zero, suc, ◌+◌, ◌-◌, ◌*◌, ◌/◌, ◌%◌, ◌^◌, ◌<◌, ◌≤◌, ◌⊎◌, sym, ap, ◌∙◌, subst, inl, inr, mul-le-mul_right, mod-lt, mod-eq_of_lt, mul_assoc, mul_comm, add-mul, eq-zero-or-pos, eq-or-lt_of_le, one-mul, mul-one, div-le_self, add-one, arith}
 use Rattle.std.proofs.lemmas.Nat.{mul-mod_first, mul-mod_second}
-use native.Mathlib.Nat.{div-add-mod, add-mod_left, add-mod_right, mul-add-mod_self_left, pow-succ'}
+use Rattle.std.proofs.Math.Nat.{div-add-mod, add-mod_left, add-mod_right, mul-add-mod_self_left, pow-succ'}
 use Rattle.field.specs.Residues.{Halved, Prime}
 
 -- p is q·a and a remainder, so the remainder is p − q times a

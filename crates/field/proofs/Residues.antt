@@ -1,7 +1,7 @@
 -- From the numbers that the arithmetic gives to the symbols that they stand for, modulo any p. Assumes nothing.
 use Rattle.std.proofs.Common.{◌≡◌, ℕ, ◌%◌, ◌<◌, sym, refl, ap, ◌∙◌, mod-eq_of_lt}
 use Rattle.std.proofs.lemmas.Nat.{mul-mod_second}
-use native.Mathlib.Nat.{mod-mod}
+use Rattle.std.proofs.Math.Nat.{mod-mod}
 use Rattle.field.specs.Below.{same_below}
 use Rattle.field.specs.Numbers.{residue}
 use Rattle.field.specs.Residues.{Prime, modular}

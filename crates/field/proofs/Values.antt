@@ -1,6 +1,6 @@
 -- From the numbers that a program computes to the symbols that they stand for. Assumes nothing.
 use Rattle.std.proofs.Common.{◌≡◌, ℕ, ◌<◌, sym, ◌∙◌, inl, inr, eq-zero-or-pos}
-use native.Mathlib.Nat.{zero-mod}
+use Rattle.std.proofs.Math.Nat.{zero-mod}
 use Rattle.field.specs.Below.{Below, same_below}
 use Rattle.field.specs.Numbers.{residue}
 use Rattle.field.specs.Ring.{Ring, Divides}

@@ -60,7 +60,7 @@ pub trait Sums: Copy {
         self.number() == other.number()
     }
 
-    // MARKS, as contracts can speak of it.
+    // MARKS, with the promise that it counts the marks.
     final fn mark_count() -> u32
         ensures { result ≡ symbols.marks }
     {
@@ -74,9 +74,9 @@ pub trait Sums: Copy {
 pub trait Quotients: Sums {
     // Every symbol but zero has an inverse: one promise for all symbols at once.
     fn divides()
-        ensures { Divides Self.Sums.symbols.ring };
+        ensures { Divides Self.symbols.ring };
 
     // Absent for zero alone.
     fn inverse(self) -> Option<Self>
-        ensures { MatchOption result (Self.Sums.value self ≡ Self.Sums.symbols.ring.zero) (λ y. Self.Sums.symbols.ring.times (Self.Sums.value self) (Self.Sums.value y) ≡ Self.Sums.symbols.ring.one) };
+        ensures { MatchOption result (Self.value self ≡ Self.symbols.ring.zero) (λ y. Self.symbols.ring.times (Self.value self) (Self.value y) ≡ Self.symbols.ring.one) };
 }

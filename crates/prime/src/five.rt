@@ -17,7 +17,7 @@ pub enum Five {
 
 const SYMBOLS: [Five; 5] = [Five::Zero, Five::One, Five::Two, Five::Three, Five::Four];
 
-const MARKS: [Five; 4] = [Five::One, Five::Four, Five::Two, Five::Three];
+const MARK_LIST: [Five; 4] = [Five::One, Five::Four, Five::Two, Five::Three];
 
 impl Residue for Five {
     const SIZE: u32 = 5;
@@ -47,6 +47,6 @@ impl Residue for Five {
     }
 
     fn mark_at(j: u32) -> Five {
-        MARKS[j as usize - 1]
+        MARK_LIST[j as usize - 1]
     }
 }
