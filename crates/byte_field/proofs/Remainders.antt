@@ -1,8 +1,9 @@
 -- The product of bytes is the remainder of the product of polynomials: both are linear in each factor, and so is the
 -- quotient, so that a computed test at the powers of two is enough. Assumes nothing.
-use Rattle.std.proofs.Common.{◌≡◌, ℕ, zero, suc, ◌*◌, ◌/◌, ◌%◌, ◌<◌, Bool, T, eqb, List, [], ◌∷◌, refl, ap, ◌∙◌, ap₂, eqb→eq}
-use lib.Bits.{bit_xor, xor_shr}
-use Rattle.byte_field.specs.Linear.{Linear, powers, each, eachb, told, agree, after, by_left, by_right, picked_sum, twice_sum, pick_right, xor_swap, xor_twice, xor_odd, product_below}
+use Rattle.std.proofs.Common.{◌≡◌, ℕ, zero, suc, ◌*◌, ◌/◌, ◌%◌, ◌<◌, List, [], ◌∷◌, refl, ap, ◌∙◌, ap₂}
+use Rattle.std.specs.Int.Bits.{bit_xor}
+use Rattle.std.proofs.lemmas.Nat.{xor_shr}
+use Rattle.byte_field.specs.Linear.{Linear, Tested, agree_both, after, by_left, by_right, picked_sum, twice_sum, pick_right, xor_swap, xor_twice, xor_odd, product_below}
 use Rattle.byte_field.specs.Polynomials.{shifts, times, modulus, Products}
 use Rattle.byte_field.specs.Product.{pick, twice, picked, product}
 
@@ -59,21 +60,12 @@ whole_right a = sum_linear (product a) (λ b. times modulus (quotient a b)) (by_
 whole_left : (b : ℕ) → Linear (λ a. whole a b)
 whole_left b = sum_linear (λ a. product a b) (λ a. times modulus (quotient a b)) (by_left b) (after (times modulus) (λ a. quotient a b) (times_right modulus) (quotient_left b))
 
-abbrev fits : ℕ → ℕ → Bool
-fits b a = eqb (times a b) (whole a b)
-
-all_fit : T (eachb (λ b. eachb (fits b) powers) powers)
+all_fit : Tested times whole
 unfolding product quotient
-all_fit = tt
+all_fit = refl
 
 times_whole : (a b : ℕ) → a < 256 → b < 256 → times a b ≡ whole a b
-times_whole a b ha hb =
-    agree (times a) (whole a) (times_right a) (whole_right a)
-    (each (λ y. T (eachb (fits y) powers)) (λ y. times a y ≡ whole a y) powers
-    (λ y t.
-    agree (λ x. times x y) (λ x. whole x y) (times_left y) (whole_left y)
-    (each (λ x. T (fits y x)) (λ x. times x y ≡ whole x y) powers (λ x u. eqb→eq (times x y) (whole x y) u) (told (fits y) powers t)) a ha)
-    (told (λ y. eachb (fits y) powers) powers all_fit)) b hb
+times_whole = agree_both times whole (times_right, times_left) (whole_right, whole_left) all_fit
 
 pub remainders : Products
 remainders a b ha hb = record { below = product_below a b ha; multiple = (quotient a b, times_whole a b ha hb) }

@@ -1,6 +1,6 @@
 -- The loops of the product and of the inverse. Assumes nothing.
-use Rattle.std.proofs.Common.{◌≡◌, ℕ, suc, ◌+◌, ◌-◌, ◌/◌, ◌%◌, ◌<◌, ◌≤◌, List, [], ◌∷◌, ◌++◌, length, get_or, take, drop, set, sym, ap, ◌∙◌, append_assoc, append-nil, add-one, arith, length-set, take_all, drop-cons}
-use lib.Bits.{bit_xor, xor_assoc, xor_zero_r}
+use Rattle.std.proofs.Common.{◌≡◌, ℕ, suc, ◌+◌, ◌-◌, ◌/◌, ◌%◌, ◌<◌, ◌≤◌, List, [], ◌∷◌, ◌++◌, length, slice_index, take, drop, slice_set, sym, ap, ◌∙◌, refl, append_assoc, append-nil, add-one, arith, length-set, take_all, drop-cons}
+use Rattle.std.specs.Int.Bits.{bit_xor, xor_assoc, xor_zero_r}
 use Rattle.std.proofs.lemmas.List.{take_more_set, drop_all}
 use Rattle.field.proofs.Binary.{Inverted}
 use Rattle.byte_field.specs.Product.{pick, twice, doublings, picked, product, squares, inverse}
@@ -9,7 +9,7 @@ use Rattle.byte_field.specs.Product.{pick, twice, doublings, picked, product, sq
 abbrev pub Listed : ℕ → ℕ → ℕ → ℕ → List ℕ → Type 0
 Listed n a i d ds = (length ds ≡ n) × (take i ds ++ doublings (n - i) d ≡ doublings n a)
 
-pub listed_more : (n a i d e : ℕ) (ds : List ℕ) → i < n → e ≡ twice d → Listed n a i d ds → Listed n a (i + 1) e (set ds i d)
+pub listed_more : (n a i d e : ℕ) (ds : List ℕ) → i < n → e ≡ twice d → Listed n a i d ds → Listed n a (i + 1) e (slice_set ds i d)
 listed_more n a i d e ds h is l =
     let within : i < length ds = omega (arith, l.0) in
     let left : n - i ≡ suc (n - (i + 1)) = omega arith in (
@@ -30,7 +30,7 @@ listed_all n a i d ds h l =
 abbrev pub Added : List ℕ → ℕ → ℕ → ℕ → ℕ → Type 0
 Added ds b k sum rest = bit_xor sum (picked (drop k ds) rest) ≡ picked ds b
 
-pub added_more : (ds : List ℕ) (b k sum rest s : ℕ) → k < length ds → s ≡ pick (rest % 2) (get_or ds k 0) → Added ds b k sum rest → Added ds b (k + 1) (bit_xor sum s) (rest / 2)
+pub added_more : (ds : List ℕ) (b k sum rest s : ℕ) → k < length ds → s ≡ pick (rest % 2) (slice_index ds k) → Added ds b k sum rest → Added ds b (k + 1) (bit_xor sum s) (rest / 2)
 added_more ds b k sum rest s h is e =
     xor_assoc sum s (picked (drop (k + 1) ds) (rest / 2))
     ∙ ap (bit_xor sum) ((λ i. bit_xor (is i) (picked (drop (add-one k i) ds) (rest / 2))) ∙ ap (λ xs. picked xs rest) (sym (drop-cons ds k 0 h)))
@@ -54,4 +54,4 @@ squares_all n k s f r h e =
 -- each byte but 0 gives 1 with its inverse, by a computed test of all
 pub inverted : Inverted 256 product inverse
 unfolding product squares
-inverted = tt
+inverted = refl

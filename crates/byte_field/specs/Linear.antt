@@ -1,10 +1,14 @@
 -- The product of bytes is linear in each factor, so its laws follow from those at the eight powers of two. Assumes nothing.
-use Rattle.std.specs.Prelude.{◌≡◌, ℕ, zero, suc, ◌*◌, ◌/◌, ◌%◌, ◌<◌, Bool, true, T, List, [], ◌∷◌, map, ◌==◌, bit_xor, nat_eq, refl}
-use Rattle.std.proofs.Common.{sym, ◌∙◌, ap, mod-lt, add-zero, arith, eqb→eq, lit<}
+use Rattle.std.specs.Prelude.{◌≡◌, ℕ, zero, suc, ◌*◌, ◌/◌, ◌%◌, ◌<◌, Bool, IsTrue, List, [], ◌∷◌, map, ◌==◌, bit_xor, refl}
+use Rattle.std.proofs.Common.{sym, ◌∙◌, ap, mod-lt, add-zero, arith, lit<}
+use Rattle.std.proofs.lemmas.Bool.{eqb-true}
+use Rattle.std.proofs.lemmas.List.Elements.{All-head, All-tail, All-weaker}
+use Rattle.std.proofs.lemmas.List.Sums.{AllPass-from_list_all}
 use Rattle.std.proofs.lemmas.Nat.{xor_comm, xor_mod, xor_shr, xor_block, xor_lt}
+use Rattle.std.specs.List.{All, list_all}
 use Rattle.std.specs.Int.Bits.{xor_assoc, xor_zero_r, xor_self}
 use Rattle.field.specs.Binary.{Product}
-use Rattle.field.specs.Computed.{all, all_at, both, both_left, both_right}
+use Rattle.field.specs.Computed.{all, all_at}
 use Rattle.byte_field.specs.Product.{pick, twice, doublings, picked, product}
 
 -- ---- sums
@@ -77,14 +81,6 @@ at_zero f l = l 0 0 ∙ xor_self (f 0)
 abbrev pub powers : List ℕ
 powers = 1 ∷ 2 ∷ 4 ∷ 8 ∷ 16 ∷ 32 ∷ 64 ∷ 128 ∷ []
 
-abbrev pub Each : (ℕ → Type 0) → List ℕ → Type 0
-Each P [] = Unit {0}
-Each P (x ∷ xs) = P x × Each P xs
-
-pub each : (P Q : ℕ → Type 0) (xs : List ℕ) → ((x : ℕ) → P x → Q x) → Each P xs → Each Q xs
-each P Q [] f e = tt
-each P Q (x ∷ xs) f e = (f x e.0, each P Q xs f e.1)
-
 pick_out : (f : ℕ → ℕ) → f 0 ≡ 0 → (s d : ℕ) → f (pick s d) ≡ pick s (f d)
 pick_out f z zero d = z
 pick_out f z (suc s) d = refl
@@ -93,28 +89,37 @@ spread : (f : ℕ → ℕ) → Linear f → (ds : List ℕ) (b : ℕ) → f (pic
 spread f l [] b = at_zero f l
 spread f l (d ∷ ds) b = l (pick (b % 2) d) (picked ds (b / 2)) ∙ (λ i. bit_xor (pick_out f (at_zero f l) (b % 2) d i) (spread f l ds (b / 2) i))
 
-same_map : (f g : ℕ → ℕ) (xs : List ℕ) → Each (λ x. f x ≡ g x) xs → map f xs ≡ map g xs
+same_map : (f g : ℕ → ℕ) (xs : List ℕ) → All (λ x. f x ≡ g x) xs → map f xs ≡ map g xs
 same_map f g [] e = refl
-same_map f g (x ∷ xs) e = λ i. e.0 i ∷ same_map f g xs e.1 i
+same_map f g (x ∷ xs) e = λ i. All-head (λ y. f y ≡ g y) x xs e i ∷ same_map f g xs (All-tail (λ y. f y ≡ g y) x xs e) i
 
 -- every byte is the sum of the powers that its digits pick
-digits : T (all (λ c. nat_eq (picked powers c) c) 256)
-digits = tt
+digits : IsTrue (all (λ c. picked powers c == c) 256)
+digits = refl
 
-pub agree : (f g : ℕ → ℕ) → Linear f → Linear g → Each (λ x. f x ≡ g x) powers → (c : ℕ) → c < 256 → f c ≡ g c
+pub agree : (f g : ℕ → ℕ) → Linear f → Linear g → All (λ x. f x ≡ g x) powers → (c : ℕ) → c < 256 → f c ≡ g c
 agree f g lf lg e c h =
-    let whole : picked powers c ≡ c = eqb→eq (picked powers c) c (all_at (λ c. nat_eq (picked powers c) c) 256 digits c h) in
+    let whole : picked powers c ≡ c = eqb-true (picked powers c) c (all_at (λ c. picked powers c == c) 256 digits c h) in
     ap f (sym whole) ∙ spread f lf powers c ∙ ap (λ ds. picked ds c) (same_map f g powers e) ∙ sym (spread g lg powers c) ∙ ap g whole
 
--- ---- the product's laws, by computed tests at the powers of two
-abbrev pub eachb : (ℕ → Bool) → List ℕ → Bool
-eachb p [] = true
-eachb p (x ∷ xs) = both (p x) (eachb p xs)
+-- ---- and a function that is linear in two, by one computed test at the powers of two
+abbrev pub Bilinear : (ℕ → ℕ → ℕ) → Type 0
+Bilinear f = ((a : ℕ) → Linear (f a)) × ((b : ℕ) → Linear (λ a. f a b))
 
-pub told : (p : ℕ → Bool) (xs : List ℕ) → T (eachb p xs) → Each (λ x. T (p x)) xs
-told p [] t = tt
-told p (x ∷ xs) t = (both_left (p x) (eachb p xs) t, told p xs (both_right (p x) (eachb p xs) t))
+abbrev pub Tested : (f g : ℕ → ℕ → ℕ) → Type 0
+Tested f g = IsTrue (list_all (λ y. list_all (λ x. f x y == g x y) powers) powers)
 
+-- what holds of the powers for which a test is true
+pub told : (p : ℕ → Bool) (P : ℕ → Type 0) → ((x : ℕ) → IsTrue (p x) → P x) → IsTrue (list_all p powers) → All P powers
+told p P f t = All-weaker (λ x. IsTrue (p x)) P f powers (AllPass-from_list_all p powers t)
+
+pub agree_both : (f g : ℕ → ℕ → ℕ) → Bilinear f → Bilinear g → Tested f g → (a b : ℕ) → a < 256 → b < 256 → f a b ≡ g a b
+agree_both f g lf lg t a b ha hb =
+    agree (f a) (g a) (lf.0 a) (lg.0 a)
+    (told (λ y. list_all (λ x. f x y == g x y) powers) (λ y. f a y ≡ g a y)
+    (λ y u. agree (λ x. f x y) (λ x. g x y) (lf.1 y) (lg.1 y) (told (λ x. f x y == g x y) (λ x. f x y ≡ g x y) (λ x. eqb-true (f x y) (g x y)) u) a ha) t) b hb
+
+-- ---- the product's laws
 pub by_right : (a : ℕ) → Linear (product a)
 by_right a = product_right a
 
@@ -124,51 +129,44 @@ by_left b x y = product_left x y b
 pub after : (f g : ℕ → ℕ) → Linear f → Linear g → Linear (λ x. f (g x))
 after f g lf lg a b = ap f (lg a b) ∙ lf (g a) (g b)
 
-abbrev turns : ℕ → ℕ → Bool
-turns x y = product y x == product x y
-
-turned : T (eachb (λ x. eachb (turns x) powers) powers)
+turned : Tested product (λ a b. product b a)
 unfolding product
-turned = tt
+turned = refl
 
 pub product_comm : (a b : ℕ) → a < 256 → b < 256 → product a b ≡ product b a
-product_comm a b ha hb =
-    agree (product a) (λ y. product y a) (by_right a) (by_left a)
-    (each (λ x. T (eachb (turns x) powers)) (λ x. product a x ≡ product x a) powers
-    (λ x t.
-    agree (λ y. product y x) (product x) (by_left x) (by_right x)
-    (each (λ y. T (turns x y)) (λ y. product y x ≡ product x y) powers (λ y u. eqb→eq (product y x) (product x y) u) (told (turns x) powers t)) a ha)
-    (told (λ x. eachb (turns x) powers) powers turned)) b hb
+product_comm a b ha hb = agree_both product (λ a b. product b a) (by_right, by_left) (by_left, by_right) turned a b ha hb
 
-abbrev joins : ℕ → ℕ → ℕ → Bool
-joins z y x = product (product x y) z == product x (product y z)
+-- both sides of the law of three factors, of which z is the last
+abbrev left_first : ℕ → ℕ → ℕ → ℕ
+left_first z x y = product (product x y) z
 
-joined : T (eachb (λ z. eachb (λ y. eachb (joins z y) powers) powers) powers)
+abbrev right_first : ℕ → ℕ → ℕ → ℕ
+right_first z x y = product x (product y z)
+
+abbrev joins : ℕ → Bool
+joins z = list_all (λ y. list_all (λ x. left_first z x y == right_first z x y) powers) powers
+
+joined : IsTrue (list_all joins powers)
 unfolding product
-joined = tt
+joined = refl
 
-assoc_1 : (z y : ℕ) → T (eachb (joins z y) powers) → (a : ℕ) → a < 256 → product (product a y) z ≡ product a (product y z)
-assoc_1 z y t a h =
-    agree (λ x. product (product x y) z) (λ x. product x (product y z)) (after (λ x. product x z) (λ x. product x y) (by_left z) (by_left y)) (by_left (product y z))
-    (each (λ x. T (joins z y x)) (λ x. product (product x y) z ≡ product x (product y z)) powers (λ x u. eqb→eq (product (product x y) z) (product x (product y z)) u) (told (joins z y) powers t)) a h
-
-assoc_2 : (z : ℕ) → T (eachb (λ y. eachb (joins z y) powers) powers) → (a b : ℕ) → a < 256 → b < 256 → product (product a b) z ≡ product a (product b z)
+assoc_2 : (z : ℕ) → IsTrue (joins z) → (a b : ℕ) → a < 256 → b < 256 → product (product a b) z ≡ product a (product b z)
 assoc_2 z t a b ha hb =
-    agree (λ y. product (product a y) z) (λ y. product a (product y z)) (after (λ x. product x z) (product a) (by_left z) (by_right a)) (after (product a) (λ y. product y z) (by_right a) (by_left z))
-    (each (λ y. T (eachb (joins z y) powers)) (λ y. product (product a y) z ≡ product a (product y z)) powers (λ y u. assoc_1 z y u a ha) (told (λ y. eachb (joins z y) powers) powers t)) b hb
+    agree_both (left_first z) (right_first z)
+    ((λ x. after (λ n. product n z) (product x) (by_left z) (by_right x)), (λ y. after (λ n. product n z) (λ n. product n y) (by_left z) (by_left y)))
+    ((λ x. after (product x) (λ n. product n z) (by_right x) (by_left z)), (λ y. by_left (product y z))) t a b ha hb
 
 pub product_assoc : (a b c : ℕ) → a < 256 → b < 256 → c < 256 → product (product a b) c ≡ product a (product b c)
 product_assoc a b c ha hb hc =
     agree (product (product a b)) (λ z. product a (product b z)) (by_right (product a b)) (after (product a) (product b) (by_right a) (by_right b))
-    (each (λ z. T (eachb (λ y. eachb (joins z y) powers) powers)) (λ z. product (product a b) z ≡ product a (product b z)) powers (λ z u. assoc_2 z u a b ha hb)
-    (told (λ z. eachb (λ y. eachb (joins z y) powers) powers) powers joined)) c hc
+    (told joins (λ z. product (product a b) z ≡ product a (product b z)) (λ z u. assoc_2 z u a b ha hb) joined) c hc
 
-ones : T (all (λ x. nat_eq (product 1 x) x) 256)
+ones : IsTrue (all (λ x. product 1 x == x) 256)
 unfolding product
-ones = tt
+ones = refl
 
 pub one_product : (a : ℕ) → a < 256 → product 1 a ≡ a
-one_product a h = eqb→eq (product 1 a) a (all_at (λ x. nat_eq (product 1 x) x) 256 ones a h)
+one_product a h = eqb-true (product 1 a) a (all_at (λ x. product 1 x == x) 256 ones a h)
 
 -- ---- a product of bytes is a byte
 pick_below : (s d : ℕ) → d < 256 → pick s d < 256

@@ -2,14 +2,14 @@
 // elements, and products are taken modulo x^8 + x^4 + x^3 + x + 1.
 #![tactic(auto)]
 
-ghost use Rattle.std.specs.Prelude.{◌≡◌, ◌%◌, length, ◌==◌};
-ghost use Rattle.byte_field.specs.Bytes.{byte_symbols, byte_value};
+ghost use Rattle.std.specs.Prelude.{◌≡◌, ◌%◌, length, refl};
+ghost use Rattle.byte_field.specs.Bytes.{byte_of, byte_symbols, byte_value};
 ghost use Rattle.byte_field.specs.Polynomials.{Products};
 ghost use Rattle.byte_field.specs.Product.{doublings as doubles_of, inverse as power_254, pick, product as product_of, squares as squares_of, twice as double_of};
 
 use field::{Quotients, Sums};
 
-#[derive(Clone, Copy)]
+#[derive(Clone, Copy, Debug, PartialEq, Eq)]
 pub struct Byte(pub u8);
 
 // x^8 + x^4 + x^3 + x + 1 without its highest term.
@@ -54,11 +54,10 @@ fn chosen(b: u8, d: u8) -> u8
 fn times(a: u8, b: u8) -> u8
     ensures { result ≡ product_of a b }
 {
-    let doubles = doublings(a);
     let mut sum = 0;
     let mut rest = b;
-    for k in 0..8 {
-        sum ^= chosen(rest, doubles[k]);
+    for double in doublings(a) {
+        sum ^= chosen(rest, double);
         rest /= 2;
     }
     sum
@@ -85,19 +84,18 @@ fn invert(a: u8) -> u8
     squares(a, 7)
 }
 
-// Two bytes stand for one symbol only if they are equal.
-fn equal(a: u8, b: u8) -> bool
-    ensures { result ≡ (a == b) }
-{
-    a == b
-}
-
 impl Sums for Byte {
     const MARKS: u32 = 255;
+
+    ghost MARKS = { 255 };
 
     ghost symbols = { byte_symbols };
 
     ghost value = { byte_value };
+
+    ghost of_number = { byte_of };
+
+    ghost marks_agree = { refl };
 
     fn zero() -> Byte {
         Byte(0)
@@ -120,28 +118,16 @@ impl Sums for Byte {
         Byte(times(self.0, other.0))
     }
 
-    fn same(self, other: Byte) -> bool {
-        equal(self.0, other.0)
-    }
-
     fn number(self) -> u32 {
-        self.0 as u32
+        u32::from(self.0)
     }
 
     fn symbol(n: u32) -> Option<Byte> {
-        if n < 256 { Some(Byte(n as u8)) } else { None }
-    }
-
-    fn mark_count() -> u32 {
-        Self::MARKS
+        u8::try_from(n).ok().map(Byte)
     }
 
     fn mark(j: u32) -> Option<Byte> {
-        if 1 <= j && j <= Self::MARKS {
-            Some(Byte(j as u8))
-        } else {
-            None
-        }
+        if j == 0 { None } else { Self::symbol(j) }
     }
 }
 

@@ -1,7 +1,8 @@
 -- A solver for equations in a commutative ring: both sides, written as expressions, are brought to one sorted sum of signed products, by computation.
 -- Assumes nothing.
-use Rattle.std.proofs.Common.{◌≡◌, ℕ, zero, suc, Bool, true, false, not, ◌&&◌, T, eqb, ltb, List, [], ◌∷◌, sym, refl, ap, ◌∙◌, ap₂, eqb→eq}
-use mathlib.Core.Bool.{beq}
+use Rattle.std.proofs.Common.{◌≡◌, ℕ, zero, suc, Bool, true, false, not, ◌&&◌, IsTrue, ◌==◌, nat_lt, List, [], ◌∷◌, sym, refl, ap, ◌∙◌, ap₂}
+use Rattle.std.proofs.Math.Bool.{beq}
+use Rattle.std.proofs.lemmas.Bool.{and_parts, eqb-true, false≢true}
 use Rattle.field.specs.Ring.{Ring}
 
 infix 20 ◌≐◌
@@ -58,13 +59,13 @@ abbrev pub less : List ℕ → List ℕ → Bool
 less [] [] = false
 less [] (y ∷ n) = true
 less (x ∷ m) [] = false
-less (x ∷ m) (y ∷ n) = let r = less m n in elim (ltb x y) [ true ↦ true | false ↦ eqb x y && r ]
+less (x ∷ m) (y ∷ n) = let r = less m n in elim (nat_lt x y) [ true ↦ true | false ↦ x == y && r ]
 
 abbrev pub same : List ℕ → List ℕ → Bool
 same [] [] = true
 same [] (y ∷ n) = false
 same (x ∷ m) [] = false
-same (x ∷ m) (y ∷ n) = eqb x y && same m n
+same (x ∷ m) (y ∷ n) = x == y && same m n
 
 abbrev pub ins_at : Bool → ℕ → ℕ → List ℕ → List ℕ → List ℕ
 ins_at true x y ys r = y ∷ r
@@ -72,7 +73,7 @@ ins_at false x y ys r = x ∷ y ∷ ys
 
 abbrev pub ins : ℕ → List ℕ → List ℕ
 ins x [] = x ∷ []
-ins x (y ∷ ys) = ins_at (ltb y x) x y ys (ins x ys)
+ins x (y ∷ ys) = ins_at (nat_lt y x) x y ys (ins x ys)
 
 abbrev pub mul_m : List ℕ → List ℕ → List ℕ
 mul_m [] n = n
@@ -214,7 +215,7 @@ module _ {A : Type 0} (R : Ring A) where
 
     ins_is : (x : ℕ) (m : List ℕ) → ev_m (ins x m) ≡ ρ x * ev_m m
     ins_is x [] = refl
-    ins_is x (y ∷ ys) = ins_at_is (ltb y x) x y ys (ins x ys) (ins_is x ys)
+    ins_is x (y ∷ ys) = ins_at_is (nat_lt y x) x y ys (ins x ys) (ins_is x ys)
 
     mul_m_is : (m n : List ℕ) → ev_m (mul_m m n) ≡ ev_m m * ev_m n
     mul_m_is [] n = sym (one-mul (ev_m n))
@@ -230,32 +231,24 @@ module _ {A : Type 0} (R : Ring A) where
     neg_t_is (tm true m) = refl
     neg_t_is (tm false m) = sym (neg_neg (ev_m m))
 
-    and_left : (a b : Bool) → T (a && b) → T a
-    and_left true b t = tt
-    and_left false b t = t
-
-    and_right : (a b : Bool) → T (a && b) → T b
-    and_right true b t = t
-    and_right false b t = absurd t
-
-    same_is : (m n : List ℕ) → T (same m n) → m ≡ n
+    same_is : (m n : List ℕ) → IsTrue (same m n) → m ≡ n
     same_is [] [] t = refl
-    same_is [] (y ∷ n) t = absurd t
-    same_is (x ∷ m) [] t = absurd t
-    same_is (x ∷ m) (y ∷ n) t = ap₂ ◌∷◌ (eqb→eq x y (and_left (eqb x y) (same m n) t)) (same_is m n (and_right (eqb x y) (same m n) t))
+    same_is [] (y ∷ n) t = absurd (false≢true t)
+    same_is (x ∷ m) [] t = absurd (false≢true t)
+    same_is (x ∷ m) (y ∷ n) t = let parts = and_parts (x == y) (same m n) t in ap₂ ◌∷◌ (eqb-true x y parts.0) (same_is m n parts.1)
 
-    cancels_is : (t u : Tm) → T (cancels t u) → ev_t t + ev_t u ≡ nil
-    cancels_is (tm true m) (tm true n) h = absurd h
+    cancels_is : (t u : Tm) → IsTrue (cancels t u) → ev_t t + ev_t u ≡ nil
+    cancels_is (tm true m) (tm true n) h = absurd (false≢true h)
     cancels_is (tm true m) (tm false n) h = ap (λ z. z + neg (ev_m n)) (ap ev_m (same_is m n h)) ∙ add_neg (ev_m n)
     cancels_is (tm false m) (tm true n) h = ap (λ z. neg z + ev_m n) (ap ev_m (same_is m n h)) ∙ add_comm (neg (ev_m n)) (ev_m n) ∙ add_neg (ev_m n)
-    cancels_is (tm false m) (tm false n) h = absurd h
+    cancels_is (tm false m) (tm false n) h = absurd (false≢true h)
 
-    weave_at : (b c : Bool) (t u : Tm) (v w x : List Tm) (p q : List Tm) → (T c → ev_t t + ev_t u ≡ nil)
+    weave_at : (b c : Bool) (t u : Tm) (v w x : List Tm) (p q : List Tm) → (IsTrue c → ev_t t + ev_t u ≡ nil)
         → ev_p v ≡ ev_p p + (ev_t u + ev_p q) → ev_p w ≡ ev_p p + ev_p q → ev_p x ≡ ev_t t + ev_p p + ev_p q
         → ev_p (elim b [ true ↦ t ∷ v | false ↦ elim c [ true ↦ w | false ↦ u ∷ x ] ]) ≡ ev_t t + ev_p p + (ev_t u + ev_p q)
     weave_at true c t u v w x p q h ev ew ex = ap (λ z. ev_t t + z) ev ∙ sym (add_assoc (ev_t t) (ev_p p) (ev_t u + ev_p q))
     weave_at false true t u v w x p q h ev ew ex =
-        ew ∙ sym (nil_add (ev_p p + ev_p q)) ∙ ap (λ z. z + (ev_p p + ev_p q)) (sym (h tt)) ∙ four (ev_t t) (ev_t u) (ev_p p) (ev_p q)
+        ew ∙ sym (nil_add (ev_p p + ev_p q)) ∙ ap (λ z. z + (ev_p p + ev_p q)) (sym (h refl)) ∙ four (ev_t t) (ev_t u) (ev_p p) (ev_p q)
     weave_at false false t u v w x p q h ev ew ex = ap (λ z. ev_t u + z) ex ∙ add_left_comm (ev_t u) (ev_t t + ev_p p) (ev_p q)
 
     weave_is : (t : Tm) (p : List Tm) (f : List Tm → List Tm) → ((q : List Tm) → ev_p (f q) ≡ ev_p p + ev_p q) → (q : List Tm) → ev_p (weave t f q) ≡ ev_t t + ev_p p + ev_p q

@@ -1,9 +1,12 @@
 // Fields in two steps: sums, and quotients built on them.
 #![tactic(auto)]
 
-ghost use Rattle.std.specs.Prelude.{◌≡◌, ℕ, ◌<◌, ◌≤◌, T, Some, None};
+ghost use Rattle.std.specs.Prelude.{◌≡◌, ℕ, ◌≤◌, IsTrue, MatchOption};
 ghost use Rattle.field.specs.Ring.{Divides};
 ghost use Rattle.field.specs.Symbols.{Symbols};
+
+mod modulo;
+pub mod residue;
 
 // A field as far as its sums and products go, with its marks (the constants
 // that the code is built from) and the number of each symbol.
@@ -11,11 +14,16 @@ pub trait Sums: Copy {
     // How many marks there are.
     const MARKS: u32;
 
+    ghost MARKS: { ℕ };
+
     // The symbols as mathematics has them, with the laws that each field owes.
     ghost symbols: { Symbols };
 
     // Which of them a value of the program stands for.
     ghost value: { Self → symbols.Symbol };
+
+    // The value of the program with a number, so that no symbol has two.
+    ghost of_number: { ℕ → Self };
 
     fn zero() -> Self
         ensures { value result ≡ symbols.ring.zero };
@@ -32,34 +40,43 @@ pub trait Sums: Copy {
     fn product(self, other: Self) -> Self
         ensures { value result ≡ symbols.ring.times (value self) (value other) };
 
-    // Yes exactly for the same symbol, so no symbol has two values.
-    fn same(self, other: Self) -> bool
-        ensures yes { T result → self ≡ other }
-        ensures found { value self ≡ value other → T result };
-
     fn number(self) -> u32
-        ensures { result ≡ symbols.number (value self) };
+        ensures is { result ≡ symbols.number (value self) }
+        ensures back { self ≡ of_number result };
 
     // The symbol with the number n, absent from the field's size up.
     fn symbol(n: u32) -> Option<Self>
-        ensures { elim result [ None ↦ symbols.size ≤ n | Some x ↦ symbols.number (value x) ≡ n ] };
-
-    // MARKS, as contracts can speak of it.
-    fn mark_count() -> u32
-        ensures { result ≡ symbols.marks };
+        ensures { MatchOption result (symbols.size ≤ n) (λ x. symbols.number (value x) ≡ n) };
 
     // Mark j, absent outside 1 to the mark count.
     fn mark(j: u32) -> Option<Self>
-        ensures { elim result [ None ↦ (1 ≤ j → j ≤ symbols.marks → ⊥) | Some x ↦ (1 ≤ j) × (j ≤ symbols.marks) × (value x ≡ symbols.mark j) ] };
+        ensures { MatchOption result (1 ≤ j → j ≤ symbols.marks → ⊥) (λ x. (1 ≤ j) × (j ≤ symbols.marks) × (value x ≡ symbols.mark j)) };
+
+    // Yes exactly for the same symbol.
+    final fn same(self, other: Self) -> bool
+        ensures yes { IsTrue result → self ≡ other }
+        ensures found { value self ≡ value other → IsTrue result }
+    {
+        self.number() == other.number()
+    }
+
+    // MARKS, with the promise that it counts the marks.
+    final fn mark_count() -> u32
+        ensures { result ≡ symbols.marks }
+    {
+        Self::MARKS
+    }
+
+    ghost marks_agree: { MARKS ≡ symbols.marks };
 }
 
 // A field with inverses.
 pub trait Quotients: Sums {
     // Every symbol but zero has an inverse: one promise for all symbols at once.
     fn divides()
-        ensures { Divides Self.Sums.symbols.ring };
+        ensures { Divides Self.symbols.ring };
 
     // Absent for zero alone.
     fn inverse(self) -> Option<Self>
-        ensures { elim result [ None ↦ Self.Sums.value self ≡ Self.Sums.symbols.ring.zero | Some y ↦ Self.Sums.symbols.ring.times (Self.Sums.value self) (Self.Sums.value y) ≡ Self.Sums.symbols.ring.one ] };
+        ensures { MatchOption result (Self.value self ≡ Self.symbols.ring.zero) (λ y. Self.symbols.ring.times (Self.value self) (Self.value y) ≡ Self.symbols.ring.one) };
 }

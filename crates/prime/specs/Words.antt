@@ -1,10 +1,11 @@
 -- The field of words: the integers modulo 65537, with mark j equal to j. Assumes nothing.
-use Rattle.std.specs.Prelude.{ℕ, ◌<◌, cond, nat_lt}
+use Rattle.std.specs.Prelude.{ℕ, ◌<◌, if◌then◌else◌, nat_lt}
 use Rattle.std.proofs.Common.{lit<}
 use Rattle.field.specs.Below.{Below}
+use Rattle.field.specs.Marks.{Marks}
 use Rattle.field.specs.Numbers.{counted, residue}
 use Rattle.field.specs.Symbols.{Symbols}
-use Rattle.prime.specs.Residues.{integers}
+use Rattle.field.specs.Residues.{integers}
 use Rattle.prime.specs.declared.words.Words.{Words}
 use Rattle.prime.specs.declared.words.Words.TheVariants.{Low, Top}
 
@@ -14,13 +15,16 @@ word_number Top = 65536
 
 -- the symbol of a number below 65537
 abbrev pub word_of : ℕ → Words
-word_of n = cond (nat_lt n 65536) (Low n) Top
+word_of n = (if nat_lt n 65536 then Low n else Top)
 
 pub above_one : 1 < 65537
 above_one = lit< tt
 
+abbrev pub word_marks : Marks 65537
+word_marks = counted 65537 65536 (lit< tt)
+
 abbrev pub word_symbols : Symbols
-word_symbols = integers 65537 above_one (counted 65537 65536 (lit< tt))
+word_symbols = integers 65537 above_one word_marks
 
 abbrev pub word_value : Words → Below 65537
 word_value w = residue 65537 above_one (word_number w)

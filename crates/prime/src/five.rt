@@ -1,12 +1,12 @@
 // Five: the integers modulo 5.
-ghost use Rattle.std.specs.Prelude.{◌≡◌, ◌<◌};
-ghost use Rattle.field.specs.Numbers.{NumberOf};
-ghost use Rattle.prime.specs.Five.{five_number, five_of, five_symbols, five_value};
+ghost use Rattle.std.specs.Prelude.{refl};
+ghost use Rattle.std.proofs.Common.{lit<};
+ghost use Rattle.prime.specs.Five.{above_one, five_marks, five_number, five_of};
+ghost use Rattle.prime.specs.Primes.{prime_5};
 
-use crate::modulo;
-use field::{Quotients, Sums};
+use field::residue::Residue;
 
-#[derive(Clone, Copy)]
+#[derive(Clone, Copy, Debug, PartialEq, Eq)]
 pub enum Five {
     Zero,
     One,
@@ -15,96 +15,38 @@ pub enum Five {
     Four,
 }
 
-const SIZE: u32 = 5;
+const SYMBOLS: [Five; 5] = [Five::Zero, Five::One, Five::Two, Five::Three, Five::Four];
 
-const MARK_LIST: [u32; 4] = [1, 4, 2, 3];
+const MARK_LIST: [Five; 4] = [Five::One, Five::Four, Five::Two, Five::Three];
 
-fn from_number(n: u32) -> Five
-    requires { n < 5 }
-    ensures { five_number result ≡ n }
-{
-    match n {
-        0 => Five::Zero,
-        1 => Five::One,
-        2 => Five::Two,
-        3 => Five::Three,
-        _ => Five::Four,
-    }
-}
+impl Residue for Five {
+    const SIZE: u32 = 5;
 
-fn to_number(s: Five) -> u32
-    ensures { NumberOf 5 five_number five_of s result }
-{
-    match s {
-        Five::Zero => 0,
-        Five::One => 1,
-        Five::Two => 2,
-        Five::Three => 3,
-        Five::Four => 4,
-    }
-}
+    ghost SIZE = { 5 };
 
-impl Sums for Five {
-    const MARKS: u32 = 4;
+    ghost above_one = { above_one };
 
-    ghost symbols = { five_symbols };
+    ghost marks = { five_marks };
 
-    ghost value = { five_value };
+    ghost number = { five_number };
 
-    fn zero() -> Five {
-        Five::Zero
+    ghost of_number = { five_of };
+
+    ghost prime = { prime_5 };
+
+    ghost small = { lit< tt };
+
+    ghost marks_agree = { refl };
+
+    fn from_number(n: u32) -> Five {
+        SYMBOLS[n as usize]
     }
 
-    fn one() -> Five {
-        Five::One
+    fn to_number(self) -> u32 {
+        self as u32
     }
 
-    fn sum(self, other: Five) -> Five {
-        from_number(modulo::sum(SIZE, to_number(self), to_number(other)))
-    }
-
-    fn negative(self) -> Five {
-        from_number(modulo::negative(SIZE, to_number(self)))
-    }
-
-    fn product(self, other: Five) -> Five {
-        from_number(modulo::product(SIZE, to_number(self), to_number(other)))
-    }
-
-    fn same(self, other: Five) -> bool {
-        to_number(self) == to_number(other)
-    }
-
-    fn number(self) -> u32 {
-        to_number(self)
-    }
-
-    fn symbol(n: u32) -> Option<Five> {
-        if n < SIZE { Some(from_number(n)) } else { None }
-    }
-
-    fn mark_count() -> u32 {
-        Self::MARKS
-    }
-
-    fn mark(j: u32) -> Option<Five> {
-        if 1 <= j && j <= Self::MARKS {
-            Some(from_number(MARK_LIST[(j - 1) as usize]))
-        } else {
-            None
-        }
-    }
-}
-
-impl Quotients for Five {
-    fn divides() {}
-
-    fn inverse(self) -> Option<Five> {
-        let n = to_number(self);
-        if n == 0 {
-            None
-        } else {
-            Some(from_number(modulo::inverse(SIZE, n)))
-        }
+    fn mark_at(j: u32) -> Five {
+        MARK_LIST[j as usize - 1]
     }
 }

@@ -2,5 +2,4 @@
 #![tactic(auto)]
 
 pub mod five;
-mod modulo;
 pub mod words;

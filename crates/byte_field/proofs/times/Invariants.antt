@@ -1,5 +1,5 @@
 use Rattle.byte_field.proofs.Steps.{Added}
 use Rattle.byte_field.proofs.times.Given as goal
 
-abbrev pub invariant-loop-k : goal.invariant-loop-k
-invariant-loop-k l = Added l.doubles l.b l.k l.sum l.rest
+abbrev pub invariant-loop-double : goal.invariant-loop-double
+invariant-loop-double l = Added l.double-items l.b l.double-index l.sum l.rest

@@ -1,7 +1,6 @@
-use mathlib.Core.Path.{◌∙◌}
 use Rattle.field.proofs.Binary.{sum_stands}
 use Rattle.four.specs.Four.{above_one, product, four_product}
 use Rattle.four.proofs.FourSums.sum.Goals as goal
 
 pub returns : goal.returns
-returns c = sum_stands 2 above_one product four_product _ _ _ _ _ (c.from_number.ensures ∙ c.add.ensures) c.to_number.ensures.is c.to_number-2.ensures.is
+returns c = sum_stands 2 above_one product four_product _ _ _ c.add.ensures

@@ -1,9 +1,0 @@
-use Rattle.field.proofs.Values.{same_value, same_told}
-use Rattle.prime.specs.Words.{above_one}
-use Rattle.prime.proofs.words.WordsSums.same.Goals as goal
-
-pub returns : goal.returns
-returns c =
-    let a = c.to_number.ensures in
-    let b = c.to_number-2.ensures in
-    record { yes = same_value 65537 above_one a b; found = same_told 65537 above_one a b }
