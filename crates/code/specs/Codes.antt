@@ -1,7 +1,7 @@
 -- The code: boxes with kinds and directions, images, parities, halves, and the column that a set of halves gives.
 -- Boxes are numbered from 1 where people name them; here a box goes by its place, from 0: box b has place b - 1.
 -- A column is a symbol for each row; rows from 2 ^ m up play no part. Assumes nothing.
-use Rattle.std.specs.Prelude.{◌≡◌, ℕ, zero, suc, ◌+◌, ◌-◌, ◌*◌, ◌/◌, ◌%◌, ◌^◌, ◌<◌, ◌≤◌, true, false, cond, ◌==◌, ◌≢◌, nat_lt}
+use Rattle.std.specs.Prelude.{◌≡◌, ℕ, zero, suc, ◌+◌, ◌-◌, ◌*◌, ◌/◌, ◌%◌, ◌^◌, ◌<◌, ◌≤◌, true, false, if◌then◌else◌, ◌==◌, ◌≢◌, nat_lt}
 use Rattle.field.specs.Ring.{Ring}
 use Rattle.field.specs.Symbols.{Symbols}
 use Rattle.code.specs.Rows.{odd, digit, partner, lower}
@@ -72,7 +72,7 @@ module _ {A : Type 0} (c : Code A) where
 
   -- what each box holds of a file: the data boxes, then the two parity boxes
   abbrev pub column : File → ℕ → Column
-  column f b = cond (nat_lt b data_boxes) (f b) (cond (b == data_boxes) (parity1 f) (parity2 f))
+  column f b = if nat_lt b data_boxes then f b else (if b == data_boxes then parity1 f else parity2 f)
 
   -- number j of the half of a column for the lost data box x: that of the pair with the j-th lower row
   abbrev pub half_for : ℕ → Column → ℕ → A
@@ -80,7 +80,7 @@ module _ {A : Type 0} (c : Code A) where
 
   -- the helpers of the lost box x, all boxes but x in rising order: that in place h
   abbrev pub helper : ℕ → ℕ → ℕ
-  helper x h = cond (nat_lt h x) h (suc h)
+  helper x h = if nat_lt h x then h else suc h
 
   -- two columns are the same
   abbrev pub Alike : Column → Column → Type 0

@@ -1,6 +1,6 @@
 -- How missing columns follow from the others and the parities: the steps that the inner functions promise.
 -- That they lead to the one file is proved above them. Assumes nothing.
-use Rattle.std.specs.Prelude.{ℕ, Bool, true, false, cond, ◌||◌, ◌==◌}
+use Rattle.std.specs.Prelude.{ℕ, Bool, true, false, if◌then◌else◌, ◌||◌, ◌==◌}
 use Rattle.field.specs.Ring.{Ring}
 use Rattle.code.specs.Blocks.{◌∸◌, block}
 use Rattle.code.specs.Codes.{Code, sum, image, data_boxes}
@@ -65,7 +65,7 @@ module _ {A : Type 0} (R : Ring A) where
 module _ {A : Type 0} (c : Code A) (x y : ℕ) (f : ℕ → ℕ → A) (C : ℕ → A) where
   -- what is left of the column C once the columns of all data boxes but x and y are taken off, or their images
   abbrev pub left_sum : ℕ → A
-  left_sum a = ◌∸◌ c.ring (C a) (sum c.ring (data_boxes c) (λ b. cond (b == x || b == y) c.ring.zero (f b a)))
+  left_sum a = ◌∸◌ c.ring (C a) (sum c.ring (data_boxes c) (λ b. if b == x || b == y then c.ring.zero else f b a))
 
   abbrev pub left_image : ℕ → A
-  left_image a = ◌∸◌ c.ring (C a) (sum c.ring (data_boxes c) (λ b. cond (b == x || b == y) c.ring.zero (image c b (f b) a)))
+  left_image a = ◌∸◌ c.ring (C a) (sum c.ring (data_boxes c) (λ b. if b == x || b == y then c.ring.zero else image c b (f b) a))

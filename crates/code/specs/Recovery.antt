@@ -1,6 +1,6 @@
 -- How a lost column follows from the halves of the other boxes: the steps that the inner functions promise.
 -- That they lead to the column given by the halves is proved above them. Assumes nothing.
-use Rattle.std.specs.Prelude.{ℕ, suc, ◌-◌, Bool, true, false, cond, ◌==◌, nat_lt}
+use Rattle.std.specs.Prelude.{ℕ, suc, ◌-◌, Bool, true, false, if◌then◌else◌, ◌==◌, nat_lt}
 use Rattle.field.specs.Ring.{Ring}
 use Rattle.code.specs.Blocks.{◌∸◌}
 use Rattle.code.specs.Codes.{Code, sum, kind, shift, eigen_p, eigen_q, image, data_boxes}
@@ -10,7 +10,7 @@ use Rattle.code.specs.declared.Kind.TheVariants.{Lower, Upper, Sum}
 
 -- the place of the helper b among the helpers of the lost box x
 abbrev pub seat : ℕ → ℕ → ℕ
-seat x b = cond (nat_lt b x) b (b - 1)
+seat x b = if nat_lt b x then b else b - 1
 
 module _ {A : Type 0} (R : Ring A) where
   -- the half for kind u of a block of another kind v is this times the half
@@ -38,15 +38,15 @@ module _ {A : Type 0} (c : Code A) (x : ℕ) where
   -- the half of the image of box b's column, from the half g of the column
   abbrev pub half_image : ℕ → (ℕ → A) → ℕ → A
   half_image b g j =
-      cond (shift c b == shift c x) (c.ring.times (eigenvalue c.ring (kind c x) (kind c b) (eigen_p c b) (eigen_q c b)) (g j))
-      (image c b (λ a. g (pair_of (shift c x) a)) (lower (shift c x) j))
+      if shift c b == shift c x then c.ring.times (eigenvalue c.ring (kind c x) (kind c b) (eigen_p c b) (eigen_q c b)) (g j)
+      else image c b (λ a. g (pair_of (shift c x) a)) (lower (shift c x) j)
 
   -- what the helpers below n take off the halves of the two parities
   abbrev pub taken : ℕ → (ℕ → ℕ → A) → ℕ → A
-  taken n g j = sum c.ring n (λ b. cond (b == x) c.ring.zero (g (seat x b) j))
+  taken n g j = sum c.ring n (λ b. if b == x then c.ring.zero else g (seat x b) j)
 
   abbrev pub taken_image : ℕ → (ℕ → ℕ → A) → ℕ → A
-  taken_image n g j = sum c.ring n (λ b. cond (b == x) c.ring.zero (half_image b (g (seat x b)) j))
+  taken_image n g j = sum c.ring n (λ b. if b == x then c.ring.zero else half_image b (g (seat x b)) j)
 
   -- the halves of the lost column and of its image
   abbrev pub lost_half : (ℕ → ℕ → A) → ℕ → A

@@ -93,19 +93,21 @@ impl<'a, F: Sums> Halves<'a, F> {
         }
     }
 
-    // Takes one helper's half off the halves of the two parities, at pair j: the
-    // half itself off the first, the half of its image off the second.
-    fn subtract_half(&self, b: usize, half: &[F], j: usize, left: (F, F)) -> (F, F)
-        requires pairs { length half.now ≡ 2 ^ (self.now.cabinet.size.m - 1) }
-        requires pair { j < 2 ^ (self.now.cabinet.size.m - 1) }
-        ensures first { F.value result.0 ≡ ◌∸◌ F.symbols.ring (F.value left.0) (at F.symbols F.value half.now j) }
-        ensures second { F.value result.1 ≡ ◌∸◌ F.symbols.ring (F.value left.1) (half_image (full F.symbols self.now.cabinet.size.m) self.now.lost b (at F.symbols F.value half.now) j) }
+    // The half that the data box in place b sent.
+    fn half(&self, b: usize) -> &'a [F]
+        requires helper { b < 3 * self.now.cabinet.size.m }
+        requires other { b ≢ self.now.lost }
+        ensures pairs { length result.now ≡ 2 ^ (self.now.cabinet.size.m - 1) }
+        ensures numbers { (j : ℕ) → j < 2 ^ (self.now.cabinet.size.m - 1) → at F.symbols F.value result.now j ≡ parts F.symbols F.value (2 ^ (self.now.cabinet.size.m - 1)) self.now.numbers.now (seated self.now.lost b) j }
     {
-        let image = self.half_of_image(b, half, j);
-        (left.0.sum(half[j].negative()), left.1.sum(image.negative()))
+        let pairs = self.cabinet.size.pairs();
+        let start = seat(self.lost, b) * pairs;
+        &self.numbers[start..start + pairs]
     }
 
-    // Takes the half of the data box in place b off, unless it is the lost box.
+    // Takes the half of the data box in place b off the halves of the two
+    // parities, at pair j, unless it is the lost box: the half itself off the
+    // first, the half of its image off the second.
     fn subtract_box(&self, b: usize, j: usize, left: (F, F)) -> (F, F)
         requires helper { b < 3 * self.now.cabinet.size.m }
         requires pair { j < 2 ^ (self.now.cabinet.size.m - 1) }
@@ -115,9 +117,9 @@ impl<'a, F: Sums> Halves<'a, F> {
         if b == self.lost {
             return left;
         }
-        let pairs = self.cabinet.size.pairs();
-        let start = seat(self.lost, b) * pairs;
-        self.subtract_half(b, &self.numbers[start..start + pairs], j, left)
+        let half = self.half(b);
+        let image = self.half_of_image(b, half, j);
+        (left.0.sum(half[j].negative()), left.1.sum(image.negative()))
     }
 
     // The halves, at pair j, of the lost column and of its image: those of the
@@ -159,7 +161,7 @@ impl<'a, F: Sums> Halves<'a, F> {
 // Writes the column given by the halves.
 fn write_column<F: Quotients>(halves: &Halves<'_, F>, column: &mut [F])
     requires { length column.old ≡ 2 ^ halves.now.cabinet.size.m }
-    ensures { Given (full F.Sums.symbols halves.now.cabinet.size.m) halves.now.lost (parts F.Sums.symbols F.Sums.value (2 ^ (halves.now.cabinet.size.m - 1)) halves.now.numbers.now) (at F.Sums.symbols F.Sums.value column.new) }
+    ensures { Given (full F.symbols halves.now.cabinet.size.m) halves.now.lost (parts F.symbols F.value (2 ^ (halves.now.cabinet.size.m - 1)) halves.now.numbers.now) (at F.symbols F.value column.new) }
 {
     let Some(d) = halves.cabinet.block(halves.lost).gap().inverse() else {
         // The marks are distinct, so the gap is not zero.
@@ -177,8 +179,8 @@ pub fn restore<F: Quotients>(
     halves: &[F],
     column: &mut [F],
 ) -> Result<(), Refusal>
-    ensures answer { refusal result ≡ first (wrong_size m ∷ few_marks F.Sums.symbols m ∷ wrong_lengths ((length halves.now, (3 * m + 1) * 2 ^ (m - 1)) ∷ (length column.old, 2 ^ m) ∷ []) ∷ no_box (3 * m + 2) lost ∷ parity_box (3 * m) lost ∷ []) }
-    ensures column { MatchResult result (λ _. Given (full F.Sums.symbols m) (lost - 1) (parts F.Sums.symbols F.Sums.value (2 ^ (m - 1)) halves.now) (at F.Sums.symbols F.Sums.value column.new)) (λ _. column.new ≡ column.old) }
+    ensures answer { refusal result ≡ first (wrong_size m ∷ few_marks F.symbols m ∷ wrong_lengths ((length halves.now, (3 * m + 1) * 2 ^ (m - 1)) ∷ (length column.old, 2 ^ m) ∷ []) ∷ no_box (3 * m + 2) lost ∷ parity_box (3 * m) lost ∷ []) }
+    ensures column { MatchResult result (λ _. Given (full F.symbols m) (lost - 1) (parts F.symbols F.value (2 ^ (m - 1)) halves.now) (at F.symbols F.value column.new)) (λ _. column.new ≡ column.old) }
 {
     let cabinet = Cabinet::<F>::new(m)?;
     let (boxes, pairs, rows) = (
