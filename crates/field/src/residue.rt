@@ -9,7 +9,7 @@ ghost use Rattle.field.specs.Residues.{Prime, integers};
 use crate::{Quotients, Sums, modulo};
 
 // The symbols of a field of integers modulo a prime. The conversions are methods:
-// From could not require a number below the size.
+// From could not require a number below the size, nor promise which one is given.
 pub trait Residue: Copy {
     const SIZE: u32;
 
