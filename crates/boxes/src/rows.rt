@@ -11,7 +11,8 @@ pub fn power(k: usize) -> usize
     1 << (k % 64)
 }
 
-// The same for a k that a size leaves.
+// The same for a k that a size leaves. Each power of a size promises the two
+// bounds again, since the arithmetic above rests on them.
 pub(crate) fn small_power(k: usize) -> usize
     requires { k ≤ 6 }
     ensures value { result ≡ 2 ^ k }

@@ -30,25 +30,16 @@ impl Parity {
         }
     }
 
-    // Adds the shares of all data columns of a file into a column.
-    fn add_shares<F: Sums>(self, cabinet: &Cabinet<F>, file: &[F], sum: &mut [F])
-        requires whole { length file.now ≡ 3 * cabinet.now.size.m * 2 ^ cabinet.now.size.m }
-        requires rows { length sum.old ≡ 2 ^ cabinet.now.size.m }
-        requires empty { Holds F.symbols F.value (2 ^ cabinet.now.size.m) sum.old (λ _. F.symbols.ring.zero) }
-        ensures { Holds F.symbols F.value (2 ^ cabinet.now.size.m) sum.new (parity_of self (full F.symbols cabinet.now.size.m) (parts F.symbols F.value (2 ^ cabinet.now.size.m) file.now)) }
-    {
-        for (b, column) in file.chunks_exact(cabinet.size.rows()).enumerate() {
-            self.add_share(cabinet, b, sum, column);
-        }
-    }
-
+    // Writes the parity column of a file.
     fn write<F: Sums>(self, cabinet: &Cabinet<F>, file: &[F], into: &mut [F])
         requires whole { length file.now ≡ 3 * cabinet.now.size.m * 2 ^ cabinet.now.size.m }
         requires rows { length into.old ≡ 2 ^ cabinet.now.size.m }
         ensures { Holds F.symbols F.value (2 ^ cabinet.now.size.m) into.new (parity_of self (full F.symbols cabinet.now.size.m) (parts F.symbols F.value (2 ^ cabinet.now.size.m) file.now)) }
     {
         clear(into);
-        self.add_shares(cabinet, file, into);
+        for (b, column) in file.chunks_exact(cabinet.size.rows()).enumerate() {
+            self.add_share(cabinet, b, into, column);
+        }
     }
 }
 

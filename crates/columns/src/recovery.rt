@@ -46,6 +46,7 @@ struct Halves<'a, F: Sums> {
     ghost whole: { length numbers.now ≡ (3 * cabinet.size.m + 1) * 2 ^ (cabinet.size.m - 1) },
 }
 
+// Where a function asks that there is a pair j: a type for j would hold that bound alone.
 impl<'a, F: Sums> Halves<'a, F> {
     // Those sent for the lost box, from 1 to 3m.
     fn new(cabinet: Cabinet<F>, lost: usize, numbers: &'a [F]) -> Self
@@ -136,6 +137,7 @@ impl<'a, F: Sums> Halves<'a, F> {
             self.numbers[(boxes - 1) * pairs + j],
             self.numbers[boxes * pairs + j],
         );
+        // Over the boxes and not the halves, since the lost box has none.
         for b in 0..boxes {
             left = self.subtract_box(b, j, left);
         }

@@ -5,7 +5,7 @@ use Rattle.code.proofs.Sums.{sum_more}
 use Rattle.columns.specs.Parities.{share}
 use Rattle.columns.proofs.Shares.{share_same, all_parts}
 use Rattle.columns.proofs.Slices.{Left, left_all, left_part, left_more}
-use Rattle.columns.proofs.parity.Parity.add_shares.Goals as goal
+use Rattle.columns.proofs.parity.Parity.write.Goals as goal
 
 pub loop-b-init : goal.loop-b-init
 loop-b-init g c =
@@ -19,7 +19,7 @@ loop-b-init g c =
     let source = ap (λ s. s.iter) made ∙ c.enumerate-b-items.ensures.source in (
       ap (λ s. s.size) source ∙ c.chunks_exact.ensures.size ∙ c.rows.ensures.value,
       left_all Y v (2 ^ m) _ c.args.file.now _ none (ap (λ s. s.rest.now) source ∙ c.chunks_exact.ensures.rest),
-      λ a l. c.requires.empty a l ∙ ap (λ k. sum Y.ring k (λ b. share c.args.self code b (file b) a)) (sym none),
+      λ a l. c.clear.ensures a (omega arith) ∙ ap (λ k. sum Y.ring k (λ b. share c.args.self code b (file b) a)) (sym none),
     )
 
 pub loop-b-preserved : goal.loop-b-preserved
