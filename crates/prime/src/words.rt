@@ -38,7 +38,7 @@ impl Residue for Words {
 
     fn to_number(self) -> u32 {
         match self {
-            Words::Low(n) => n as u32,
+            Words::Low(n) => u32::from(n),
             Words::Top => 65536,
         }
     }
