@@ -1,7 +1,6 @@
 -- The arithmetic of rows, as the program does it. Assumes nothing.
-use Rattle.std.proofs.Common.{Option, Some, MatchOption, subst, ◌≡◌, ℕ, suc, ◌+◌, ◌-◌, ◌*◌, ◌/◌, ◌%◌, ◌^◌, ◌<◌, ◌≤◌, sym, ap, ◌∙◌, ap₂, inl, inr, mul-le-mul_right, mul_assoc, suc-mul, mul_comm, pow-suc, arith, pow_mono}
-use native.Mathlib.Nat.{div-add-mod, div-eq_of_lt}
-use Rattle.std.proofs.lemmas.Bool.{cases_lt}
+use Rattle.std.proofs.Common.{Option, Some, MatchOption, subst, ◌≡◌, ℕ, suc, ◌+◌, ◌-◌, ◌*◌, ◌/◌, ◌%◌, ◌^◌, ◌<◌, ◌≤◌, sym, ap, ◌∙◌, ap₂, mul-le-mul_right, mul_assoc, suc-mul, mul_comm, pow-suc, arith, pow_mono}
+use native.Mathlib.Nat.{div-add-mod}
 use Rattle.std.proofs.lemmas.Option.{MatchOption-at_some}
 use Rattle.code.specs.Rows.{lower}
 use Rattle.code.proofs.Pairing.{upper_below}
@@ -13,14 +12,6 @@ power_is k r h e = e ∙ ap (λ n. 2 ^ n) (omega arith)
 
 pub power_most : (k : ℕ) → k ≤ 6 → 2 ^ k ≤ 64
 power_most k h = pow_mono h
-
--- a row with an upper digit is at least as large as the digit's weight
-pub weight_most : (w a : ℕ) → a / w % 2 ≡ 1 → w ≤ a
-weight_most w a h =
-    elim (cases_lt a w) [
-      | inl l ↦ let z : a / w ≡ 0 = div-eq_of_lt l in omega arith
-      | inr l ↦ l
-    ]
 
 module _ (k w : ℕ) (e : w ≡ 2 ^ k) where
   pub lower_is : (j : ℕ) → j + (j - j % w) ≡ lower k j

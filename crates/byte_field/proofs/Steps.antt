@@ -1,9 +1,9 @@
 -- The loops of the product and of the inverse. Assumes nothing.
-use Rattle.std.proofs.Common.{◌≡◌, ℕ, suc, ◌+◌, ◌-◌, ◌/◌, ◌%◌, ◌<◌, ◌≤◌, List, [], ◌∷◌, ◌++◌, length, slice_index, take, drop, slice_set, sym, ap, ◌∙◌, refl, append_assoc, append-nil, add-one, arith, length-set, take_all, drop-cons}
-use Rattle.std.specs.Int.Bits.{bit_xor, xor_assoc, xor_zero_r}
+use Rattle.std.proofs.Common.{◌≡◌, ℕ, suc, ◌+◌, ◌-◌, ◌<◌, ◌≤◌, List, [], ◌∷◌, ◌++◌, length, take, drop, slice_set, sym, ap, ◌∙◌, refl, append_assoc, arith, length-set}
+use Rattle.std.specs.Int.Bits.{bit_xor, xor_zero_r}
 use Rattle.std.proofs.lemmas.List.{take_more_set, drop_all}
 use Rattle.field.proofs.Binary.{Inverted}
-use Rattle.byte_field.specs.Product.{pick, twice, doublings, picked, product, squares, inverse}
+use Rattle.byte_field.specs.Product.{twice, doublings, picked, product, squares, inverse}
 
 -- the first i of n doublings of a are listed, and d is the next
 abbrev pub Listed : ℕ → ℕ → ℕ → ℕ → List ℕ → Type 0
@@ -20,21 +20,9 @@ listed_more n a i d e ds h is l =
           ∙ l.1,
     )
 
-pub listed_all : (n a i d : ℕ) (ds : List ℕ) → n ≤ i → Listed n a i d ds → ds ≡ doublings n a
-listed_all n a i d ds h l =
-    let none : n - i ≡ 0 = omega arith in
-    let long : length ds ≤ i = omega (arith, l.0) in
-    sym (take_all i ds long) ∙ sym (append-nil (take i ds)) ∙ ap (λ k. take i ds ++ doublings k d) (sym none) ∙ l.1
-
 -- the sum so far, with what the rest of b picks of the rest, is what b picks of all
 abbrev pub Added : List ℕ → ℕ → ℕ → ℕ → ℕ → Type 0
 Added ds b k sum rest = bit_xor sum (picked (drop k ds) rest) ≡ picked ds b
-
-pub added_more : (ds : List ℕ) (b k sum rest s : ℕ) → k < length ds → s ≡ pick (rest % 2) (slice_index ds k) → Added ds b k sum rest → Added ds b (k + 1) (bit_xor sum s) (rest / 2)
-added_more ds b k sum rest s h is e =
-    xor_assoc sum s (picked (drop (k + 1) ds) (rest / 2))
-    ∙ ap (bit_xor sum) ((λ i. bit_xor (is i) (picked (drop (add-one k i) ds) (rest / 2))) ∙ ap (λ xs. picked xs rest) (sym (drop-cons ds k 0 h)))
-    ∙ e
 
 pub added_all : (ds : List ℕ) (b k sum rest : ℕ) → length ds ≤ k → Added ds b k sum rest → sum ≡ picked ds b
 added_all ds b k sum rest h e = sym (xor_zero_r sum) ∙ ap (λ xs. bit_xor sum (picked xs rest)) (sym (drop_all k ds h)) ∙ e

@@ -42,10 +42,3 @@ module _ {A : Type 0} (c : Code A) (b : ℕ) (C : ℕ → A) (j : ℕ) where
     pub image_at_high : block c.ring u p q s t true ≡ image c b C high
     image_at_high = as_pair true ∙ sym image_upper ∙ ap (image c b C) (sym eh)
 
--- a block that is computed for one row, with the digit d of that row, is the image there
-pub image_at_row : {A : Type 0} (c : Code A) (b : ℕ) (G : ℕ → A) (row l at : ℕ) (u : Kind) (p q s t : A) (d : Bool)
-    → u ≡ kind c b → p ≡ eigen_p c b → q ≡ eigen_q c b → l ≡ shift c b → at ≡ row → s ≡ G (partner l false at) → t ≡ G (partner l true at) → d ≡ odd (digit l at)
-    → block c.ring u p q s t d ≡ image c b G row
-image_at_row c b G row l at u p q s t d eu ep eq el er es et ed =
-    (λ i. block c.ring (eu i) (ep i) (eq i) (es i) (et i) (ed i))
-    ∙ (λ i. block c.ring (kind c b) (eigen_p c b) (eigen_q c b) (G (partner (el i) false (er i))) (G (partner (el i) true (er i))) (odd (digit (el i) (er i))))

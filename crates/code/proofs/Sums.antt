@@ -1,6 +1,6 @@
 -- Sums over the numbers below n, and with one of them left out.
 -- Assumes nothing.
-use Rattle.std.proofs.Common.{◌≡◌, ℕ, zero, suc, ◌+◌ as ◌plus◌, ◌<◌, ◌≤◌, ◌≢◌, [], ◌∷◌, sym, refl, ap, ◌∙◌, ap₂, add-one, arith}
+use Rattle.std.proofs.Common.{◌≡◌, ℕ, zero, suc, ◌+◌ as ◌plus◌, ◌<◌, ◌≢◌, [], ◌∷◌, sym, refl, ap, ◌∙◌, ap₂, add-one, arith}
 use native.Mathlib.Decide.{ℕ_discrete}
 use Rattle.field.specs.Ring.{Ring}
 use Rattle.code.specs.Codes.{sum}
@@ -54,6 +54,3 @@ module _ {A : Type 0} (R : Ring A) where
 pub sum_more : {A : Type 0} (R : Ring A) (n : ℕ) (f : ℕ → A) → sum R (n plus 1) f ≡ R.plus (sum R n f) (f n)
 sum_more R n f = ap (λ k. sum R k f) (add-one n)
 
--- all terms that are there
-pub sum_all : {A : Type 0} (R : Ring A) (n k : ℕ) (f : ℕ → A) → n ≤ k → k ≤ n → sum R k f ≡ sum R n f
-sum_all R n k f h l = ap (λ k. sum R k f) (omega arith)

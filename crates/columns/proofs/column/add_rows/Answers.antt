@@ -1,9 +1,6 @@
 use Rattle.std.proofs.Common.{◌∙◌, ap₂, arith}
-use Rattle.columns.proofs.Slices.{rowwise_none, rowwise_more, element, read}
+use Rattle.columns.proofs.Slices.{rowwise_more, element, read}
 use Rattle.columns.proofs.column.add_rows.Goals as goal
-
-pub loop-a-init : goal.loop-a-init
-loop-a-init g c = let f = g.F.Sums in rowwise_none f.symbols f.value _ c.args.sum.now
 
 pub loop-a-preserved : goal.loop-a-preserved
 loop-a-preserved g c =
@@ -13,5 +10,3 @@ loop-a-preserved g c =
     (c.sum.ensures ∙ ap₂ f.symbols.ring.plus (element f.symbols f.value c.loop-a.sum a _ (omega arith) ∙ c.loop-a.invariant.left a (omega arith)) (read f.symbols f.value c.args.column.now a _ (omega arith) c.index-column-a.is))
     c.loop-a.invariant
 
-pub returns : goal.returns
-returns g c = λ a l. c.loop-a.invariant.done a (omega arith) l

@@ -3,11 +3,8 @@ use Rattle.code.specs.Blocks.{half}
 use Rattle.code.specs.Codes.{full, shift}
 use Rattle.code.specs.Contents.{at}
 use Rattle.boxes.proofs.Weights.{rows_are}
-use Rattle.columns.proofs.Slices.{rowwise_none, rowwise_more, read}
+use Rattle.columns.proofs.Slices.{rowwise_more, read}
 use Rattle.columns.proofs.column.take_half.Goals as goal
-
-pub loop-j-init : goal.loop-j-init
-loop-j-init g c = rowwise_none g.F.Sums.symbols g.F.Sums.value _ c.args.half.now
 
 pub loop-j-preserved : goal.loop-j-preserved
 loop-j-preserved g c =
@@ -26,5 +23,3 @@ loop-j-preserved g c =
     (c.half.ensures ∙ (λ i. half Y.ring (c.kind_at-kind.ensures i) (es i) (et i)))
     c.loop-j.invariant
 
-pub returns : goal.returns
-returns g c = λ j l. c.loop-j.invariant.done j (omega arith) (omega arith)

@@ -4,23 +4,8 @@ use Rattle.code.specs.Contents.{at, parts}
 use Rattle.code.proofs.Sums.{sum_more}
 use Rattle.columns.specs.Parities.{share}
 use Rattle.columns.proofs.Shares.{share_same, all_parts}
-use Rattle.columns.proofs.Slices.{Left, left_all, left_part, left_more}
+use Rattle.columns.proofs.Slices.{Left, left_part, left_more}
 use Rattle.columns.proofs.parity.Parity.write.Goals as goal
-
-pub loop-b-init : goal.loop-b-init
-loop-b-init g c =
-    let Y = g.F.Sums.symbols in
-    let v = g.F.Sums.value in
-    let m = c.args.cabinet.now.size.m in
-    let code = full Y m in
-    let file = parts Y v (2 ^ m) c.args.file.now in
-    let made = c.into_iter-b-iterator.ensures.into_iter_gives in
-    let none = ap (λ s. s.count) made ∙ c.enumerate-b-items.ensures.count in
-    let source = ap (λ s. s.iter) made ∙ c.enumerate-b-items.ensures.source in (
-      ap (λ s. s.size) source ∙ c.chunks_exact.ensures.size ∙ c.rows.ensures.value,
-      left_all Y v (2 ^ m) _ c.args.file.now _ none (ap (λ s. s.rest.now) source ∙ c.chunks_exact.ensures.rest),
-      λ a l. c.clear.ensures a (omega arith) ∙ ap (λ k. sum Y.ring k (λ b. share c.args.self code b (file b) a)) (sym none),
-    )
 
 pub loop-b-preserved : goal.loop-b-preserved
 loop-b-preserved g c =
