@@ -1,5 +1,5 @@
 -- What a slice's symbols stand for, as loops read and write them. Assumes nothing.
-use Rattle.std.proofs.Common.{◌≡◌, ℕ, zero, suc, ◌+◌, ◌*◌, ◌^◌, ◌<◌, ◌≤◌, ◌≢◌, List, [], ◌∷◌, ◌++◌, map, add-mul, one-mul, zero-mul, length, get_or, take, drop, set, sym, refl, ap, ◌∙◌, subst, inl, inr, arith, length-set, get_or-set_other, get_or-set_same}
+use Rattle.std.proofs.Common.{◌≡◌, ℕ, zero, suc, ◌+◌, ◌*◌, ◌^◌, ◌<◌, ◌≤◌, ◌≢◌, List, [], ◌∷◌, ◌++◌, map, add-mul, one-mul, length, get_or, take, drop, set, sym, refl, ap, ◌∙◌, subst, inl, inr, arith, length-set, get_or-set_other, get_or-set_same}
 use lib.ListN.{length-map}
 use lib.Seq.{map-set}
 use Rattle.std.proofs.lemmas.List.{get_or-map, get_or-take, get_or-drop, get_or_append_left, get_or-append-add, map-append, length-append}
@@ -51,11 +51,6 @@ module _ (Y : Symbols) {S : Type 0} (value : S → Y.Symbol) where
     pub here : (a : ℕ) → at Y value rest a ≡ at Y value xs (k * n + a)
     pub long : k * n + length rest ≡ length xs
 
-  pub left_all : (n k : ℕ) (xs rest : List S) → k ≡ 0 → rest ≡ xs → Left n k xs rest
-  left_all n k xs rest none all =
-      let start : k * n ≡ 0 = ap (λ k. k * n) none ∙ zero-mul n in
-      record { here = λ a. ap (λ ys. at Y value ys a) all ∙ ap (at Y value xs) (omega arith); long = omega (arith, ap length all) }
-
   module _ (n k : ℕ) (xs rest x after : List S) (cut : rest ≡ x ++ after) (size : length x ≡ n) (l : Left n k xs rest) where
     -- the next part
     pub left_part : (a : ℕ) → a < n → at Y value x a ≡ parts Y value n xs k a
@@ -81,9 +76,6 @@ module _ (Y : Symbols) {S : Type 0} (value : S → Y.Symbol) where
   pub record Rowwise (f : ℕ → Y.Symbol) (before : List S) (k : ℕ) (xs : List S) : Type 0 where
     pub done : (a : ℕ) → a < k → a < length before → at Y value xs a ≡ f a
     pub left : (a : ℕ) → k ≤ a → at Y value xs a ≡ at Y value before a
-
-  pub rowwise_none : (f : ℕ → Y.Symbol) (xs : List S) → Rowwise f xs 0 xs
-  rowwise_none f xs = record { done = λ a l h. absurd (omega arith); left = λ a l. refl }
 
   pub rowwise_more : (f : ℕ → Y.Symbol) (before : List S) (k : ℕ) (xs : List S) (r : S) → k < length xs → value r ≡ f k → Rowwise f before k xs → Rowwise f before (k + 1) (set xs k r)
   rowwise_more f before k xs r h e w = record {

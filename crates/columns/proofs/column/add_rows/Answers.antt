@@ -9,4 +9,3 @@ loop-a-preserved g c =
     rowwise_more f.symbols f.value _ _ a c.loop-a.sum c.sum.result (omega arith)
     (c.sum.ensures ∙ ap₂ f.symbols.ring.plus (element f.symbols f.value c.loop-a.sum a _ (omega arith) ∙ c.loop-a.invariant.left a (omega arith)) (read f.symbols f.value c.args.column.now a _ (omega arith) c.index-column-a.is))
     c.loop-a.invariant
-

@@ -22,4 +22,3 @@ loop-j-preserved g c =
     rowwise_more Y v _ _ j c.loop-j.half c.half.result (omega arith)
     (c.half.ensures ∙ (λ i. half Y.ring (c.kind_at-kind.ensures i) (es i) (et i)))
     c.loop-j.invariant
-
