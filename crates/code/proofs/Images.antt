@@ -41,4 +41,3 @@ module _ {A : Type 0} (c : Code A) (b : ℕ) (C : ℕ → A) (j : ℕ) where
 
     pub image_at_high : block c.ring u p q s t true ≡ image c b C high
     image_at_high = as_pair true ∙ sym image_upper ∙ ap (image c b C) (sym eh)
-

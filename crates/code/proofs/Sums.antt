@@ -53,4 +53,3 @@ module _ {A : Type 0} (R : Ring A) where
 -- one term more
 pub sum_more : {A : Type 0} (R : Ring A) (n : ℕ) (f : ℕ → A) → sum R (n plus 1) f ≡ R.plus (sum R n f) (f n)
 sum_more R n f = ap (λ k. sum R k f) (add-one n)
-
