@@ -37,6 +37,6 @@ impl<F: Sums> Cabinet<F> {
     pub fn block(&self, b: usize) -> Block<F>
         ensures { BlockOf (full F.symbols self.now.size.m) b result.kind (F.value result.p) (F.value result.q) }
     {
-        block_at(self.size.m, b).unwrap()
+        block_at(&self.size, b).unwrap()
     }
 }

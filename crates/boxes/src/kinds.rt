@@ -4,6 +4,7 @@ ghost use Rattle.boxes.specs.Boxes.{BlockOf, BoxOf, Fits};
 ghost use Rattle.code.specs.Blocks.{kind_of};
 ghost use Rattle.code.specs.Codes.{direction, full};
 
+use crate::size::Size;
 use code::{Block, Kind};
 use field::Sums;
 
@@ -37,17 +38,15 @@ pub fn shift_at(m: usize, b: usize) -> usize
 
 // The block of the data box in place b. Absent where the field lacks the marks
 // of its direction.
-pub(crate) fn block_at<F: Sums>(m: usize, b: usize) -> Option<Block<F>>
-    requires some { 1 ≤ m }
-    requires most { m ≤ 6 }
-    ensures marks { OnSome result (2 * direction (full F.symbols m) b ≤ F.symbols.marks) }
-    ensures block { MatchOption result (F.symbols.marks < 2 * direction (full F.symbols m) b) (λ block. BlockOf (full F.symbols m) b block.kind (F.value block.p) (F.value block.q)) }
+pub(crate) fn block_at<F: Sums>(size: &Size, b: usize) -> Option<Block<F>>
+    ensures marks { OnSome result (2 * direction (full F.symbols size.now.m) b ≤ F.symbols.marks) }
+    ensures block { MatchOption result (F.symbols.marks < 2 * direction (full F.symbols size.now.m) b) (λ block. BlockOf (full F.symbols size.now.m) b block.kind (F.value block.p) (F.value block.q)) }
 {
-    let direction = (b % m + 1) as u32;
+    let direction = (b % size.m + 1) as u32;
     let p = F::mark(2 * direction - 1)?;
     let q = F::mark(2 * direction)?;
     Some(Block {
-        kind: kind_at(m, b),
+        kind: kind_at(size.m, b),
         p,
         q,
     })
@@ -58,10 +57,11 @@ pub(crate) fn block_at<F: Sums>(m: usize, b: usize) -> Option<Block<F>>
 pub fn data_box<F: Sums>(m: usize, b: usize) -> Option<DataBox<F>>
     ensures { MatchOption result (Fits F.symbols m b → ⊥) (λ o. Fits F.symbols m b × BoxOf (full F.symbols m) b o.block.kind o.shift (F.value o.block.p) (F.value o.block.q)) }
 {
-    if m < 1 || 6 < m || KINDS * m <= b {
+    let size = Size::new(m).ok()?;
+    if size.boxes() <= b {
         return None;
     }
-    let block = block_at(m, b)?;
+    let block = block_at(&size, b)?;
     Some(DataBox {
         block,
         shift: shift_at(m, b),

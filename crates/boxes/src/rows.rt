@@ -11,8 +11,8 @@ pub fn power(k: usize) -> usize
     1 << (k % 64)
 }
 
-// The same for a k that a size leaves. Each power of a size promises the two
-// bounds again, since the arithmetic above rests on them.
+// The same for a k that a size leaves. Each power promises its two bounds: sums
+// and products of it need them, and no type holds a bare power.
 pub(crate) fn small_power(k: usize) -> usize
     requires { k ≤ 6 }
     ensures value { result ≡ 2 ^ k }
@@ -87,6 +87,7 @@ impl Digit {
         ensures { result ≡ partner self.now.place false row }
     {
         let weight = self.weight();
+        // The test of `is_upper`, seen: the check finds in it that the row has the weight.
         if row / weight % 2 == 1 {
             row - weight
         } else {

@@ -69,6 +69,7 @@ fn squares(a: u8, count: u32) -> u8
 {
     let mut square = a;
     let mut found = 1;
+    // Turns are counted, and there is nothing to go over.
     for _ in 0..count {
         square = times(square, square);
         found = times(found, square);

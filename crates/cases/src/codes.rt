@@ -30,6 +30,7 @@ fn are<F: Sums>(rt: &impl Abort, symbols: &[F], numbers: &[u32]) {
     }
 }
 
+// By number, as a refusal is known outside.
 fn refused(rt: &impl Abort, answer: Result<(), Refusal>, number: u32) {
     assert_eq!(rt; answer.map_err(Refusal::number), Err(number));
 }
@@ -75,7 +76,8 @@ impl<F: Quotients> Cabinet<F> {
         are(rt, &self.second, second);
     }
 
-    // The halves of all boxes but the lost one, in rising order.
+    // The halves of all boxes but the lost one, in rising order: gathered apart
+    // from the program's, so that the tests do not rest on it.
     fn halves(&self, alloc: Global, lost: usize) -> Result<Vec<F>, Fail> {
         let parities = [self.first.as_slice(), self.second.as_slice()];
         let columns = self.file.chunks_exact(self.rows()).chain(parities);
@@ -242,4 +244,19 @@ fn refusals(rt: HostRuntime) {
     refused(&rt, add_column(&mut first, &file), 5);
     are(&rt, &first, &[2, 2]);
     are(&rt, &second, &[2, 2]);
+}
+
+#[test]
+fn refusal_texts(rt: HostRuntime) -> Result<(), Fail> {
+    let texts = [
+        (Refusal::Size, "the size is outside 1 to 6"),
+        (Refusal::Marks, "the field has too few marks"),
+        (Refusal::Length, "a buffer has the wrong length"),
+        (Refusal::NoBox, "there is no box of that number"),
+        (Refusal::Parity, "the box is a parity box"),
+    ];
+    for (why, text) in texts {
+        assert_eq!(rt; format!(in rt.alloc(); "{why}")?.as_str(), text);
+    }
+    Ok(())
 }

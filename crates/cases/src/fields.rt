@@ -212,6 +212,7 @@ fn differences<F: Sums>(rt: &impl Abort, table: &[(u32, u32, u32)]) -> Result<()
         let x: F = symbol(a)?;
         let y = symbol(b)?;
         assert_eq!(rt; x.sum(y).sum(y.negative()).number(), a);
+        assert_eq!(rt; x.sum(y).minus(y).number(), a);
         assert_eq!(rt; x.same(y), a == b);
     }
     Ok(())

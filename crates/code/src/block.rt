@@ -15,21 +15,16 @@ pub struct Block<F> {
 }
 
 impl<F: Sums> Block<F> {
-    // Both rows, by kind.
+    // Both rows, by kind: apart from `apply`, so that the table is proved by itself
+    // and the eigenvalues from it.
     fn rows(self, s: F, t: F) -> (F, F)
         ensures lower { F.value result.0 ≡ blocked F.symbols.ring self.kind (F.value self.p) (F.value self.q) (F.value s) (F.value t) false }
         ensures upper { F.value result.1 ≡ blocked F.symbols.ring self.kind (F.value self.p) (F.value self.q) (F.value s) (F.value t) true }
     {
         let Block { kind, p, q } = self;
         match kind {
-            Kind::Lower => (
-                q.product(s).sum(q.sum(p.negative()).product(t)),
-                p.product(t),
-            ),
-            Kind::Upper => (
-                q.product(s),
-                p.sum(q.negative()).product(s).sum(p.product(t)),
-            ),
+            Kind::Lower => (q.product(s).sum(q.minus(p).product(t)), p.product(t)),
+            Kind::Upper => (q.product(s), p.minus(q).product(s).sum(p.product(t))),
             Kind::Sum => (p.product(s), q.product(t)),
         }
     }
@@ -48,7 +43,7 @@ impl<F: Sums> Block<F> {
     pub fn gap(self) -> F
         ensures { F.value result ≡ ◌∸◌ F.symbols.ring (F.value self.q) (F.value self.p) }
     {
-        self.q.sum(self.p.negative())
+        self.q.minus(self.p)
     }
 
     // What the block makes of the half for a lost box of another kind in its
@@ -73,11 +68,11 @@ impl<F: Sums> Block<F> {
     {
         let Block { kind, p, q } = self;
         match kind {
-            Kind::Lower => (g, d.product(h.sum(q.product(g).negative()))),
-            Kind::Upper => (d.product(p.product(g).sum(h.negative())), g),
+            Kind::Lower => (g, d.product(h.minus(q.product(g)))),
+            Kind::Upper => (d.product(p.product(g).minus(h)), g),
             Kind::Sum => (
-                d.product(q.product(g).sum(h.negative())),
-                d.product(h.sum(p.product(g).negative())),
+                d.product(q.product(g).minus(h)),
+                d.product(h.minus(p.product(g))),
             ),
         }
     }

@@ -8,11 +8,14 @@ use boxes::{Cabinet, Size, kind_at};
 use field::Sums;
 use refusal::{Refusal, fitting, holding_data, numbered};
 
+// What is lent is a slice, and each function asks for the length that it needs:
+// a type for a slice of 2^m symbols would be made anew at each call, to hold that alone.
+
 // Makes every symbol of a column zero.
 pub(crate) fn clear<F: Sums>(column: &mut [F])
     ensures { Holds F.symbols F.value (length column.old) column.new (λ _. F.symbols.ring.zero) }
 {
-    // `fill` clones, and a field does not promise what its clones are.
+    // `fill` clones, and it is not proved of a field's symbols what a clone is.
     for symbol in column.iter_mut() {
         *symbol = F::zero();
     }
@@ -23,6 +26,7 @@ pub(crate) fn add_rows<F: Sums>(sum: &mut [F], column: &[F])
     requires { length sum.old ≡ length column.now }
     ensures { Holds F.symbols F.value (length sum.old) sum.new (added F.symbols (at F.symbols F.value sum.old) (at F.symbols F.value column.now)) }
 {
+    // By rows: after a `zip` with `iter_mut` nothing would be known of what was written.
     for (a, symbol) in sum.iter_mut().enumerate() {
         *symbol = symbol.sum(column[a]);
     }
@@ -51,6 +55,7 @@ pub(crate) fn take_half<F: Sums>(size: &Size, x: usize, column: &[F], half: &mut
 {
     let kind = kind_at(size.m, x);
     let digit = size.digit(x);
+    // By pairs' numbers, for the same reason.
     for (j, number) in half.iter_mut().enumerate() {
         let (low, high) = digit.pair(j).unwrap();
         *number = kind.half(column[low], column[high]);

@@ -1,7 +1,7 @@
 // A lost column from the halves of all other boxes.
 ghost use Rattle.std.specs.Prelude.{◌≡◌, ℕ, ◌+◌, ◌-◌, ◌*◌, ◌%◌, ◌^◌, ◌<◌, ◌≤◌, true, false, [], ◌∷◌, length, if◌then◌else◌, MatchResult, ◌≢◌, nat_eq};
 ghost use Rattle.code.specs.Blocks.{◌∸◌};
-ghost use Rattle.code.specs.Codes.{full, Given, image};
+ghost use Rattle.code.specs.Codes.{full, Given, image, shift};
 ghost use Rattle.code.specs.Contents.{Holds, at, parts};
 ghost use Rattle.code.specs.Recovery.{half_image, lost_half, lost_image, recovered, seat as seated};
 ghost use Rattle.code.specs.Rows.{digit, lower, odd, pair_of, partner};
@@ -69,7 +69,7 @@ impl<'a, F: Sums> Halves<'a, F> {
     fn image_across(&self, b: usize, half: &[F], j: usize) -> F
         requires pairs { length half.now ≡ 2 ^ (self.now.cabinet.size.m - 1) }
         requires pair { j < 2 ^ (self.now.cabinet.size.m - 1) }
-        ensures { F.value result ≡ image (full F.symbols self.now.cabinet.size.m) b (λ a. at F.symbols F.value half.now (pair_of (self.now.cabinet.size.m - (self.now.lost % self.now.cabinet.size.m + 1)) a)) (lower (self.now.cabinet.size.m - (self.now.lost % self.now.cabinet.size.m + 1)) j) }
+        ensures { F.value result ≡ image (full F.symbols self.now.cabinet.size.m) b (λ a. at F.symbols F.value half.now (pair_of (shift (full F.symbols self.now.cabinet.size.m) self.now.lost) a)) (lower (shift (full F.symbols self.now.cabinet.size.m) self.now.lost) j) }
     {
         let along = self.cabinet.size.digit(self.lost);
         let across = self.cabinet.size.digit(b);
@@ -120,7 +120,7 @@ impl<'a, F: Sums> Halves<'a, F> {
         }
         let half = self.half(b);
         let image = self.half_of_image(b, half, j);
-        (left.0.sum(half[j].negative()), left.1.sum(image.negative()))
+        (left.0.minus(half[j]), left.1.minus(image))
     }
 
     // The halves, at pair j, of the lost column and of its image: those of the
@@ -147,7 +147,7 @@ impl<'a, F: Sums> Halves<'a, F> {
     // Writes the lost column pair by pair; d is the inverse of the gap of the lost box's block.
     fn write_pairs(&self, d: F, column: &mut [F])
         requires { length column.old ≡ 2 ^ self.now.cabinet.size.m }
-        ensures { Holds F.symbols F.value (2 ^ self.now.cabinet.size.m) column.new (λ a. recovered (full F.symbols self.now.cabinet.size.m) self.now.lost (F.value d) (parts F.symbols F.value (2 ^ (self.now.cabinet.size.m - 1)) self.now.numbers.now) (pair_of (self.now.cabinet.size.m - (self.now.lost % self.now.cabinet.size.m + 1)) a) (odd (digit (self.now.cabinet.size.m - (self.now.lost % self.now.cabinet.size.m + 1)) a))) }
+        ensures { Holds F.symbols F.value (2 ^ self.now.cabinet.size.m) column.new (λ a. recovered (full F.symbols self.now.cabinet.size.m) self.now.lost (F.value d) (parts F.symbols F.value (2 ^ (self.now.cabinet.size.m - 1)) self.now.numbers.now) (pair_of (shift (full F.symbols self.now.cabinet.size.m) self.now.lost) a) (odd (digit (shift (full F.symbols self.now.cabinet.size.m) self.now.lost) a))) }
     {
         let block = self.cabinet.block(self.lost);
         let digit = self.cabinet.size.digit(self.lost);
@@ -185,12 +185,11 @@ pub fn restore<F: Quotients>(
     ensures column { MatchResult result (λ _. Given (full F.symbols m) (lost - 1) (parts F.symbols F.value (2 ^ (m - 1)) halves.now) (at F.symbols F.value column.new)) (λ _. column.new ≡ column.old) }
 {
     let cabinet = Cabinet::<F>::new(m)?;
-    let (boxes, pairs, rows) = (
-        cabinet.size.boxes(),
-        cabinet.size.pairs(),
-        cabinet.size.rows(),
-    );
-    fitting(&[(halves.len(), (boxes + 1) * pairs), (column.len(), rows)])?;
+    let boxes = cabinet.size.boxes();
+    fitting(&[
+        (halves.len(), (boxes + 1) * cabinet.size.pairs()),
+        (column.len(), cabinet.size.rows()),
+    ])?;
     numbered(boxes + 2, lost)?;
     holding_data(boxes, lost)?;
     let halves = Halves::new(cabinet, lost, halves);

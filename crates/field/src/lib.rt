@@ -40,6 +40,8 @@ pub trait Sums: Copy {
     fn product(self, other: Self) -> Self
         ensures { value result ≡ symbols.ring.times (value self) (value other) };
 
+    // Conversions are methods, as equality is: `From` and `TryFrom` beside them
+    // would be second names for the same promise.
     fn number(self) -> u32
         ensures is { result ≡ symbols.number (value self) }
         ensures back { self ≡ of_number result };
@@ -52,7 +54,14 @@ pub trait Sums: Copy {
     fn mark(j: u32) -> Option<Self>
         ensures { MatchOption result (1 ≤ j → j ≤ symbols.marks → ⊥) (λ x. (1 ≤ j) × (j ≤ symbols.marks) × (value x ≡ symbols.mark j)) };
 
-    // Yes exactly for the same symbol.
+    final fn minus(self, other: Self) -> Self
+        ensures { value result ≡ symbols.ring.plus (value self) (symbols.ring.negative (value other)) }
+    {
+        self.sum(other.negative())
+    }
+
+    // Yes exactly for the same symbol. A law on `==` could not say so: it would
+    // have to hold of 16-bit integers that no program holds.
     final fn same(self, other: Self) -> bool
         ensures yes { IsTrue result → self ≡ other }
         ensures found { value self ≡ value other → IsTrue result }

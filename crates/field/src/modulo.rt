@@ -49,6 +49,7 @@ pub(crate) fn inverse<R: Residue>(x: u32) -> u32
 {
     let mut a = x;
     let mut factor = 1;
+    // Turns are counted, and there is nothing to go over.
     for _ in 0..32u32 {
         if a == 1 {
             break;

@@ -9,7 +9,8 @@ ghost use Rattle.field.specs.Residues.{Prime, integers};
 use crate::{Quotients, Sums, modulo};
 
 // The symbols of a field of integers modulo a prime. The conversions are methods:
-// From could not require a number below the size, nor promise which one is given.
+// there is no symbol for a number from the size up, so `From` would need one
+// made up, and `TryFrom` a case that cannot happen at each of its calls.
 pub trait Residue: Copy {
     const SIZE: u32;
 

@@ -1,9 +1,7 @@
 -- The field of five: the integers modulo 5, with the marks 1, 4, 2, 3. Assumes nothing.
 use Rattle.std.specs.Prelude.{ℕ, ◌<◌, if◌then◌else◌, [], ◌∷◌, nat_lt, refl}
 use Rattle.std.proofs.Common.{lit<}
-use Rattle.field.specs.Below.{Below}
 use Rattle.field.specs.Marks.{Marks, listed}
-use Rattle.field.specs.Numbers.{residue}
 use Rattle.field.specs.Symbols.{Symbols}
 use Rattle.field.specs.Residues.{integers}
 use Rattle.prime.specs.declared.five.Five.{Five}
@@ -28,6 +26,3 @@ five_marks = listed 5 (1 ∷ 4 ∷ 2 ∷ 3 ∷ []) refl
 
 abbrev pub five_symbols : Symbols
 five_symbols = integers 5 above_one five_marks
-
-abbrev pub five_value : Five → Below 5
-five_value s = residue 5 above_one (five_number s)

@@ -1,9 +1,8 @@
 -- The field of words: the integers modulo 65537, with mark j equal to j. Assumes nothing.
 use Rattle.std.specs.Prelude.{ℕ, ◌<◌, if◌then◌else◌, nat_lt}
 use Rattle.std.proofs.Common.{lit<}
-use Rattle.field.specs.Below.{Below}
 use Rattle.field.specs.Marks.{Marks}
-use Rattle.field.specs.Numbers.{counted, residue}
+use Rattle.field.specs.Numbers.{counted}
 use Rattle.field.specs.Symbols.{Symbols}
 use Rattle.field.specs.Residues.{integers}
 use Rattle.prime.specs.declared.words.Words.{Words}
@@ -25,6 +24,3 @@ word_marks = counted 65537 65536 (lit< tt)
 
 abbrev pub word_symbols : Symbols
 word_symbols = integers 65537 above_one word_marks
-
-abbrev pub word_value : Words → Below 65537
-word_value w = residue 65537 above_one (word_number w)

@@ -45,7 +45,8 @@ impl fmt::Display for Refusal {
 
 impl Error for Refusal {}
 
-// Declines by the earliest of the reasons that are there.
+// Declines by the earliest of the reasons that are there. In a loop, since the
+// proof of `find_map` stays open.
 pub fn earliest(reasons: &[Option<Refusal>]) -> Result<(), Refusal>
     ensures { refusal result ≡ first reasons.now }
 {
@@ -66,6 +67,8 @@ pub fn sized(m: usize) -> Result<(), Refusal>
     }
     Ok(())
 }
+
+// The questions below stand beside the checks for callers that decline nothing by them.
 
 // Does the field have fewer than 2m marks?
 pub fn few_marks<F: Sums>(m: usize) -> bool

@@ -99,7 +99,7 @@ impl<F: Sums> Matrix<F> {
     fn scaled_difference(self, other: Self, e: F) -> Self
         ensures { Entrywise (entries F.value result) (λ i j. F.symbols.ring.times (F.value e) (◌∸◌ F.symbols.ring (entries F.value self i j) (entries F.value other i j))) }
     {
-        let entry = |a: F, b: F| e.product(minus(a, b));
+        let entry = |a: F, b: F| e.product(a.minus(b));
         Self {
             lower: (
                 entry(self.lower.0, other.lower.0),
@@ -120,7 +120,7 @@ impl<F: Quotients> Matrix<F> {
     {
         // The adjugate of the block less z, over its determinant.
         let e = determinant(block, z).inverse()?;
-        let all = Self::multiple(minus(block.p.sum(block.q), z));
+        let all = Self::multiple(block.p.sum(block.q).minus(z));
         Some(all.scaled_difference(block.into(), e))
     }
 
@@ -143,11 +143,5 @@ impl<F: Quotients> Matrix<F> {
 fn determinant<F: Sums>(block: Block<F>, z: F) -> F
     ensures { F.value result ≡ determinant_of F.symbols.ring (F.value block.p) (F.value block.q) (F.value z) }
 {
-    minus(block.p, z).product(minus(block.q, z))
-}
-
-fn minus<F: Sums>(a: F, b: F) -> F
-    ensures { F.value result ≡ ◌∸◌ F.symbols.ring (F.value a) (F.value b) }
-{
-    a.sum(b.negative())
+    block.p.minus(z).product(block.q.minus(z))
 }

@@ -32,6 +32,6 @@ returns g c =
     let number = read Y v c.half-half.result.now c.args.j _ (omega (arith, half.pairs, c.requires.pair)) c.index-half-j.is ∙ half.numbers c.args.j c.requires.pair in
     let image = c.half_of_image-image.ensures ∙ half_image_same (full Y m) x b (at Y v c.half-half.result.now) sent (shift_less m x size.some) (shift_less m b size.some) half.numbers c.args.j c.requires.pair in
     record {
-      first = c.sum.ensures ∙ ap (Y.ring.plus (v c.args.left.0)) (c.negative.ensures ∙ ap Y.ring.negative (number ∙ sym (cond-false (eqb b x) Y.ring.zero _ apart)));
-      second = c.sum-2.ensures ∙ ap (Y.ring.plus (v c.args.left.1)) (c.negative-2.ensures ∙ ap Y.ring.negative (image ∙ sym (cond-false (eqb b x) Y.ring.zero _ apart)));
+      first = c.minus.ensures ∙ ap (λ x. Y.ring.plus (v c.args.left.0) (Y.ring.negative x)) ((number ∙ sym (cond-false (eqb b x) Y.ring.zero _ apart)));
+      second = c.minus-2.ensures ∙ ap (λ x. Y.ring.plus (v c.args.left.1) (Y.ring.negative x)) ((image ∙ sym (cond-false (eqb b x) Y.ring.zero _ apart)));
     }
