@@ -17,6 +17,7 @@ pub enum Parity {
     Second,
 }
 
+// The lengths of what is lent are asked for, as in column.rt.
 impl Parity {
     // Adds the share that the column of the data box in place b has in the parity column.
     fn add_share<F: Sums>(self, cabinet: &Cabinet<F>, b: usize, sum: &mut [F], column: &[F])

@@ -46,7 +46,8 @@ struct Halves<'a, F: Sums> {
     ghost whole: { length numbers.now ≡ (3 * cabinet.size.m + 1) * 2 ^ (cabinet.size.m - 1) },
 }
 
-// Where a function asks that there is a pair j: a type for j would hold that bound alone.
+// Where a function asks that there is a pair j, or for a half's length: a type for
+// j or for the slice would hold that bound alone.
 impl<'a, F: Sums> Halves<'a, F> {
     // Those sent for the lost box, from 1 to 3m.
     fn new(cabinet: Cabinet<F>, lost: usize, numbers: &'a [F]) -> Self
