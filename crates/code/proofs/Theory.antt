@@ -12,7 +12,7 @@ use Rattle.code.specs.Codes.{Code, Proper, full, sum, kind, direction, shift, ei
 use Rattle.code.specs.Recovery.{seat, eigenvalue, recover, half_image, recovered}
 use Rattle.code.specs.Rows.{odd, digit, partner, lower, pair_of}
 use Rattle.code.proofs.Digits.{rows}
-use Rattle.code.proofs.Pairing.{idx_n, lower_partner, idx_lower, lower_idx, idx_partner, idx_below, idx_closed, row_of_pair, pair_below, lower_below}
+use Rattle.code.proofs.Pairing.{lower_partner, pair_lower, lower_pair, pair_partner, row_of_pair, pair_below, lower_below}
 use Rattle.code.proofs.Images.{image_same}
 use Rattle.code.proofs.Cuts.{cut, cut_in, cut_same, cut_after, cut_halved, cut_sum}
 use Rattle.code.proofs.Sums.{pick, pick_yes, pick_no, sum_ext, sum_more}
@@ -90,7 +90,7 @@ module _ {A : Type 0} (c : Code A) (ok : Proper c) where
 
     -- a half by pairs is a half by rows
     abbrev wide : (ℕ → A) → ℕ → A
-    wide G a = G (idx_n k a)
+    wide G a = G (pair_of k a)
 
     abbrev join : (ℕ → A) → ℕ → A
     join C a = half R (kind c x) (C a) (C (a + 2 ^ k))
@@ -98,10 +98,10 @@ module _ {A : Type 0} (c : Code A) (ok : Proper c) where
     widen : (C G : ℕ → A) → HalfAlike (half_for c x C) G → H (trim C) ≡ trim (wide G)
     widen C G h =
         cut_halved R m (kind c x) k (shift_below x) C
-        ∙ cut_same R m (H C) (wide G) (λ a l. ap (join C) (sym (lower_idx k a)) ∙ h (idx_n k a) (idx_below m k a (shift_below x) l))
+        ∙ cut_same R m (H C) (wide G) (λ a l. ap (join C) (sym (lower_pair k a)) ∙ h (pair_of k a) (pair_below m k a (shift_below x) l))
 
     narrow : (C G : ℕ → A) → H C ≡ wide G → HalfAlike (half_for c x C) G
-    narrow C G e j l = ap (join C) (sym (lower_partner k j)) ∙ ap (λ X. X (lower k j)) e ∙ ap G (idx_lower k j)
+    narrow C G e j l = ap (join C) (sym (lower_partner k j)) ∙ ap (λ X. X (lower k j)) e ∙ ap G (pair_lower k j)
 
     abbrev Theory : (f g : ℕ → ℕ → A) (g1 g2 : ℕ → A) → Type 0
     Theory = files.Halves R rows n (kind c) (shift c) apart (eigen_p c) (eigen_q c) x
@@ -147,7 +147,7 @@ module _ {A : Type 0} (c : Code A) (ok : Proper c) where
             ]
 
     flat : (g : ℕ → A) → halves.Flat R rows k (wide g)
-    flat g b a = ap g (idx_partner k b a)
+    flat g b a = ap g (pair_partner k b a)
 
     -- the column that the theory gives from the halves g
     abbrev known : (ℕ → ℕ → A) → ℕ → A
@@ -197,11 +197,10 @@ module _ {A : Type 0} (c : Code A) (ok : Proper c) where
         elim (cases_eq (shift c b) k) [
           | inl h ↦
               files.known_same R rows n (kind c) (shift c) apart (eigen_p c) (eigen_q c) x hx d inverse b h (wide G) (lower k j)
-              ∙ ap (λ y. R.times (eigenvalue R (kind c x) (kind c b) (eigen_p c b) (eigen_q c b)) (G y)) (idx_lower k j)
+              ∙ ap (λ y. R.times (eigenvalue R (kind c x) (kind c b) (eigen_p c b) (eigen_q c b)) (G y)) (pair_lower k j)
               ∙ sym (cond-true (eqb (shift c b) k) _ _ (eq-eqb (shift c b) k h))
           | inr h ↦
               files.known_else R rows n (kind c) (shift c) apart (eigen_p c) (eigen_q c) x hx d inverse b h (wide G) (lower k j)
-              ∙ ap (λ (X : ℕ → A). image c b X (lower k j)) (fun_ext λ a. ap G (idx_closed k a))
               ∙ sym (cond-false (eqb (shift c b) k) _ _ (ne_eqb (shift c b) k h))
         ]
 
@@ -210,8 +209,8 @@ module _ {A : Type 0} (c : Code A) (ok : Proper c) where
         files.given_at R rows n (kind c) (shift c) apart (eigen_p c) (eigen_q c) x hx d inverse (λ b. wide (g (seat x b))) (wide (g (seat x n))) (wide (g (seat x (suc n))))
         (λ b. flat (g (seat x b))) (flat (g (seat x n))) (flat (g (seat x (suc n)))) b (lower k j)
         ∙ ap₂ (λ y z. recover R (kind c x) (eigen_p c x) (eigen_q c x) d y z b)
-        (ap₂ (◌∸◌ R) (ap (g (seat x n)) (idx_lower k j)) (sum_ext R n _ _ (λ b l. leave_out b _ _ (ap (g (seat x b)) (idx_lower k j)))))
-        (ap₂ (◌∸◌ R) (ap (g (seat x (suc n))) (idx_lower k j)) (sum_ext R n _ _ (λ b l. leave_out b _ _ (image_half b (g (seat x b)) j))))
+        (ap₂ (◌∸◌ R) (ap (g (seat x n)) (pair_lower k j)) (sum_ext R n _ _ (λ b l. leave_out b _ _ (ap (g (seat x b)) (pair_lower k j)))))
+        (ap₂ (◌∸◌ R) (ap (g (seat x (suc n))) (pair_lower k j)) (sum_ext R n _ _ (λ b l. leave_out b _ _ (image_half b (g (seat x b)) j))))
 
     -- so a column that is recovered pair by pair is the column given by the halves
     pub recovered_given : (g : ℕ → ℕ → A) (C : ℕ → A) → ((a : ℕ) → a < 2 ^ m → C a ≡ recovered c x d g (pair_of k a) (odd (digit k a))) → Given c x g C
