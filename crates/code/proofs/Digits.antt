@@ -1,6 +1,6 @@
 -- Rows with binary digits: each digit can be read and be set by itself. And the natural numbers as such rows.
 -- Assumes nothing.
-use Rattle.std.proofs.Common.{◌≡◌, ℕ, zero, suc, ◌+◌, ◌-◌, ◌*◌, ◌/◌, ◌%◌, ◌^◌, ◌<◌, Bool, true, false, ◌≢◌, sym, refl, ap, ◌∙◌, subst, inl, inr, add-mul, one-mul, pow-suc, pow-add, arith, pow_pos}
+use Rattle.std.proofs.Common.{◌≡◌, ℕ, zero, suc, ◌+◌, ◌-◌, ◌*◌, ◌/◌, ◌%◌, ◌^◌, ◌<◌, Bool, true, false, ◌≢◌, sym, refl, ap, ◌∙◌, subst, inl, inr, pow-suc, pow-add, arith, pow_pos}
 use Rattle.std.proofs.lemmas.Bool.{cases_lt, cases_eq}
 use Rattle.std.proofs.lemmas.Nat.{shr_split, shr_high, shr_below, mod_below, mul-add-lt}
 use Rattle.std.proofs.lemmas.Nat.Bits.{bit_at_cat_low, bit_at_cat_high, bit_at-suc, same_from_bits}
@@ -42,18 +42,13 @@ cat_below m k j q r e h l = subst (λ n. q * 2 ^ k + r < n) (sym (pow-add 2 k j)
 pub top_below : (m k j a : ℕ) → k + j ≡ m → a < 2 ^ m → a / 2 ^ k < 2 ^ j
 top_below m k j a e h = shr_below a j k (subst (λ n. a < 2 ^ n) (omega arith) h)
 
--- a row with digit k set: what stands above that digit, the digit, and what stands below it
+-- a row is what stands above digit k, that digit, and what stands below it
+row_is : (k a : ℕ) → (a / 2 ^ k / 2 * 2 + digit k a) * 2 ^ k + a % 2 ^ k ≡ a
+row_is k a = ap (λ n. n * 2 ^ k + a % 2 ^ k) (omega arith) ∙ shr_split a k
+
 pub partner_is : (k : ℕ) (b : Bool) (a : ℕ) → partner k b a ≡ (a / 2 ^ k / 2 * 2 + val b) * 2 ^ k + a % 2 ^ k
-partner_is k b a =
-    let whole : a / 2 ^ k * 2 ^ k + a % 2 ^ k ≡ a = shr_split a k in
-    let halves : a / 2 ^ k ≡ a / 2 ^ k / 2 * 2 + digit k a = omega arith in
-    let own : a / 2 ^ k * 2 ^ k ≡ a / 2 ^ k / 2 * 2 * 2 ^ k + digit k a * 2 ^ k = ap (λ n. n * 2 ^ k) halves ∙ add-mul (a / 2 ^ k / 2 * 2) (digit k a) (2 ^ k) in
-    go b (add-mul (a / 2 ^ k / 2 * 2) (val b) (2 ^ k)) whole own
-  where
-    go : (b : Bool) → (a / 2 ^ k / 2 * 2 + val b) * 2 ^ k ≡ a / 2 ^ k / 2 * 2 * 2 ^ k + val b * 2 ^ k → a / 2 ^ k * 2 ^ k + a % 2 ^ k ≡ a
-        → a / 2 ^ k * 2 ^ k ≡ a / 2 ^ k / 2 * 2 * 2 ^ k + digit k a * 2 ^ k → partner k b a ≡ (a / 2 ^ k / 2 * 2 + val b) * 2 ^ k + a % 2 ^ k
-    go false set whole own = omega arith
-    go true set whole own = omega (arith, one-mul (2 ^ k))
+partner_is k false a = omega (arith, row_is k a)
+partner_is k true a = omega (arith, row_is k a)
 
 digit_partner : (k : ℕ) (b : Bool) (a : ℕ) → digit k (partner k b a) ≡ val b
 digit_partner k b a =
