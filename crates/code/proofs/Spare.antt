@@ -13,13 +13,9 @@ use Rattle.code.specs.declared.Kind.{Kind}
 use Rattle.code.proofs.Matrices.{mat, half_m, recover_half, recover_block}
 use Rattle.code.proofs.Operators.{times}
 use Rattle.code.proofs.Pairing.{pair_lower, pair_upper, digit_lower, digit_upper, lower_below, upper_below}
-use Rattle.code.proofs.Seats.{other, seat_other, other_seat, other_apart, other_most}
+use Rattle.code.proofs.Seats.{seat_apart, seat_helper, helper_apart, helper_most}
 use Rattle.code.proofs.Sums.{but, sum_ext, but_ext, sum_but}
 use Rattle.code.proofs.Theory.{gap, shift_below, restorable, recovered_given}
-
--- distinct helpers have distinct places
-seat_apart : (x a b : ℕ) → a ≢ x → b ≢ x → a ≢ b → seat x a ≢ seat x b
-seat_apart x a b ha hb h e = h (sym (other_seat x a ha) ∙ ap (other x) e ∙ other_seat x b hb)
 
 module _ {A : Type 0} (R : Ring A) where
   -- a sum in which one term is raised
@@ -141,7 +137,7 @@ module _ {A : Type 0} (c : Code A) (x : ℕ) (hx : x < data_boxes c) where
       → lost_half c x g j ≡ lost_half c x (raised R h j g) j → lost_image c x g j ≡ lost_image c x (raised R h j g) j → R.zero ≡ R.one
   place_differs h l j g =
       subst (λ y. lost_half c x g j ≡ lost_half c x (raised R y j g) j → lost_image c x g j ≡ lost_image c x (raised R y j g) j → R.zero ≡ R.one)
-      (seat_other x h) (differs (other x h) (other_apart x h) j g (other_most x h (suc n) l))
+      (seat_helper c x h) (differs (helper c x h) (helper_apart c x h) j g (helper_most c x h (suc n) l))
 
   module _ (ok : Proper c) where
     -- the marks tell zero from one

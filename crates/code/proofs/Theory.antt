@@ -16,7 +16,7 @@ use Rattle.code.proofs.Pairing.{lower_partner, pair_lower, lower_pair, pair_part
 use Rattle.code.proofs.Images.{image_same}
 use Rattle.code.proofs.Cuts.{cut, cut_in, cut_same, cut_after, cut_halved, cut_sum}
 use Rattle.code.proofs.Sums.{pick, pick_yes, pick_no, sum_ext, sum_more}
-use Rattle.code.proofs.Seats.{seat_other, other_seat, other_apart, other_most, seat_most}
+use Rattle.code.proofs.Seats.{seat_most, seat_helper, helper_seat, helper_apart, helper_most}
 use Rattle.code.proofs.Halves as halves
 use Rattle.code.proofs.Files as files
 
@@ -119,7 +119,7 @@ module _ {A : Type 0} (c : Code A) (ok : Proper c) where
     -- a helper's half, by its box
     by_box : (f g : ℕ → ℕ → A) → HasHalves c x f g → (b : ℕ) → b ≢ x → b < suc (suc n) → HalfAlike (half_for c x (column c f b)) (g (seat x b))
     by_box f g h b e l j lj =
-        ap (λ y. half_for c x (column c f y) j) (sym (other_seat x b e)) ∙ h (seat x b) (seat_most x b (suc n) (omega arith) e l) j lj
+        ap (λ y. half_for c x (column c f y) j) (sym (helper_seat c x b e)) ∙ h (seat x b) (seat_most x b (suc n) (omega arith) e l) j lj
 
     to_theory : (f g : ℕ → ℕ → A) → HasHalves c x f g
         → Theory (λ b. trim (f b)) (λ b. trim (wide (g (seat x b)))) (trim (wide (g (seat x n)))) (trim (wide (g (seat x (suc n)))))
@@ -131,7 +131,7 @@ module _ {A : Type 0} (c : Code A) (ok : Proper c) where
 
     from_theory : (f g : ℕ → ℕ → A) → Theory f (λ b. wide (g (seat x b))) (wide (g (seat x n))) (wide (g (seat x (suc n)))) → HasHalves c x f g
     from_theory f g t h l =
-        subst (λ y. HalfAlike (half_for c x (column c f (helper c x h))) (g y)) (seat_other x h) (at (helper c x h) (other_apart x h) (other_most x h (suc n) l))
+        subst (λ y. HalfAlike (half_for c x (column c f (helper c x h))) (g y)) (seat_helper c x h) (at (helper c x h) (helper_apart c x h) (helper_most c x h (suc n) l))
       where
         at : (b : ℕ) → b ≢ x → b < suc (suc n) → HalfAlike (half_for c x (column c f b)) (g (seat x b))
         at b e l =
