@@ -12,7 +12,23 @@ use Rattle.code.specs.declared.Kind.{Kind}
 use Rattle.code.specs.Recovery.{eigenvalue, recover}
 use Rattle.code.proofs.Matrices.{half_m, mat}
 use Rattle.code.proofs.Halves.{after, halved, after_op, halved_op, half_same, half_else, restore, restored, Flat, restore_at, restore_half, restore_block}
-use Rattle.code.proofs.Sums.{but, pick, pick_yes, pick_no, but_ext, sum_but}
+use Rattle.code.proofs.Sums.{but, pick, pick_yes, pick_no, but_ext, term_left, sum_again}
+
+-- n boxes, each with its kind and the place of its digit; two of one place differ in kind; each place has its two marks
+pub record Boxes (A : Type 0) : Type 0 where
+  pub n : ℕ
+  pub kind : ℕ → Kind
+  pub place : ℕ → ℕ
+  pub apart : (b c : ℕ) → b < n → c < n → b ≢ c → place b ≡ place c → kind b ≢ kind c
+  pub p : ℕ → A
+  pub q : ℕ → A
+
+-- a lost one of them, and the inverse of the difference of its marks
+pub record Lost {A : Type 0} (R : Ring A) (B : Boxes A) : Type 0 where
+  pub x : ℕ
+  pub inside : x < B.n
+  pub d : A
+  pub inverse : R.times d (R.plus (B.q x) (R.negative (B.p x))) ≡ R.one
 
 module _ {A Row : Type 0} (R : Ring A) (D : Digits Row) where
   infixl 60 ◌+◌
@@ -32,9 +48,9 @@ module _ {A Row : Type 0} (R : Ring A) (D : Digits Row) where
   halved_total u k n f =
       halved_op R D u k (total n f) ∙ op_total k (half_m R u) n f ∙ ap (total n) (fun_ext λ b. sym (halved_op R D u k (f b)))
 
-  -- n boxes, each with its kind and the place of its digit; two of one place differ in kind; each place has its two marks
-  module _ (n : ℕ) (kind : ℕ → Kind) (place : ℕ → ℕ) (apart : (b c : ℕ) → b < n → c < n → b ≢ c → place b ≡ place c → kind b ≢ kind c)
-      (p q : ℕ → A) where
+  module _ (B : Boxes A) where
+    open B use {n, kind, place, p, q}
+
     abbrev pub blocks : ℕ → (Row → A) → Row → A
     blocks b = after R D (kind b) (place b) (p b) (q b)
 
@@ -50,7 +66,9 @@ module _ {A Row : Type 0} (R : Ring A) (D : Digits Row) where
       pub first : halved R D (kind x) (place x) (parity1 f) ≡ g1
       pub second : halved R D (kind x) (place x) (parity2 f) ≡ g2
 
-    module _ (x : ℕ) (inside : x < n) (d : A) (inverse : d * (q x + neg (p x)) ≡ one) where
+    module _ (L : Lost R B) where
+      open L use {x, inside, d, inverse}
+
       abbrev H : (Row → A) → Row → A
       H = halved R D (kind x) (place x)
 
@@ -63,7 +81,7 @@ module _ {A Row : Type 0} (R : Ring A) (D : Digits Row) where
       unfolding known_at
       known_at_is b l h (yes e) C =
           subst (λ k. halved R D (kind x) k (blocks b C) ≡ λ a. eigenvalue R (kind x) (kind b) (p b) (q b) * halved R D (kind x) k C a) e
-          (half_same R D (kind x) (kind b) (apart x b inside l (λ w. h (sym w)) (sym e)) (place b) (p b) (q b) C)
+          (half_same R D (kind x) (kind b) (B.apart x b inside l (λ w. h (sym w)) (sym e)) (place b) (p b) (q b) C)
       known_at_is b l h (no k) C = half_else R D (kind x) (kind b) (place x) (place b) (λ w. k (sym w)) (p b) (q b) C
 
       pub known : ℕ → (Row → A) → Row → A
@@ -87,17 +105,14 @@ module _ {A Row : Type 0} (R : Ring A) (D : Digits Row) where
       part1 : (f g : ℕ → Row → A) (g1 g2 : Row → A) → Halves x f g g1 g2 → H (f x) ≡ need1 g g1
       unfolding need1
       part1 f g g1 g2 h = fun_ext λ a.
-          ring_by R (H (f x) a ∷ g1 a ∷ but R n x (λ b. g b a) ∷ []) (λ y z w. y ≐ z ⊖ w ⟸ (i · y ⊕ w ≐ z) ∷ []) refl
-          (ap (λ s. H (f x) a + s) (sym (but_ext R n x (λ b. H (f b) a) (λ b. g b a) (λ b l k. ap (λ X. X a) (h.each b l k))))
-          ∙ sym (sum_but R n x (λ b. H (f b) a) inside) ∙ ap (λ X. X a) (sym (halved_total (kind x) (place x) n f) ∙ h.first))
+          term_left R n x (λ b. H (f b) a) (λ b. g b a) (g1 a) inside (λ b l k. ap (λ X. X a) (h.each b l k))
+          (ap (λ X. X a) (sym (halved_total (kind x) (place x) n f) ∙ h.first))
 
       part2 : (f g : ℕ → Row → A) (g1 g2 : Row → A) → Halves x f g g1 g2 → H (blocks x (f x)) ≡ need2 g g2
       unfolding need2
       part2 f g g1 g2 h = fun_ext λ a.
-          ring_by R (H (blocks x (f x)) a ∷ g2 a ∷ but R n x (λ b. known b (g b) a) ∷ []) (λ y z w. y ≐ z ⊖ w ⟸ (i · y ⊕ w ≐ z) ∷ []) refl
-          (ap (λ s. H (blocks x (f x)) a + s)
-          (sym (but_ext R n x (λ b. H (blocks b (f b)) a) (λ b. known b (g b) a) (λ b l k. ap (λ X. X a) (known_is b l k (f b) ∙ ap (known b) (h.each b l k)))))
-          ∙ sym (sum_but R n x (λ b. H (blocks b (f b)) a) inside) ∙ ap (λ X. X a) (sym (halved_total (kind x) (place x) n (λ b. blocks b (f b))) ∙ h.second))
+          term_left R n x (λ b. H (blocks b (f b)) a) (λ b. known b (g b) a) (g2 a) inside (λ b l k. ap (λ X. X a) (known_is b l k (f b) ∙ ap (known b) (h.each b l k)))
+          (ap (λ X. X a) (sym (halved_total (kind x) (place x) n (λ b. blocks b (f b))) ∙ h.second))
 
       -- every file that has the halves has the given column
       pub agree : (f g : ℕ → Row → A) (g1 g2 : Row → A) → Halves x f g g1 g2 → f x ≡ given g g1 g2
@@ -150,15 +165,11 @@ module _ {A Row : Type 0} (R : Ring A) (D : Digits Row) where
             record {
               each = λ b l k. made_each g g1 g2 h b k;
               first = halved_total (kind x) (place x) n f ∙ fun_ext λ a.
-                  sum_but R n x (λ b. H (f b) a) inside
-                  ∙ ap₂ ◌+◌ (ap (λ X. H X a) (made_at g g1 g2) ∙ ap (λ X. X a) (restore_half R D (kind x) (place x) (p x) (q x) d inverse (need1 g g1) (need2 g g2) (flat1 g g1 h h1) (flat2 g g2 h h2)))
-                  (but_ext R n x (λ b. H (f b) a) (λ b. g b a) (λ b l k. ap (λ X. X a) (made_each g g1 g2 h b k)))
-                  ∙ ring R (g1 a ∷ but R n x (λ b. g b a) ∷ []) (λ y z. y ⊖ z ⊕ z ≐ y) refl;
+                  sum_again R n x (λ b. H (f b) a) (λ b. g b a) (g1 a) inside (λ b l k. ap (λ X. X a) (made_each g g1 g2 h b k))
+                  (ap (λ X. H X a) (made_at g g1 g2) ∙ ap (λ X. X a) (restore_half R D (kind x) (place x) (p x) (q x) d inverse (need1 g g1) (need2 g g2) (flat1 g g1 h h1) (flat2 g g2 h h2)));
               second = halved_total (kind x) (place x) n (λ b. blocks b (f b)) ∙ fun_ext λ a.
-                  sum_but R n x (λ b. H (blocks b (f b)) a) inside
-                  ∙ ap₂ ◌+◌ (ap (λ X. H (blocks x X) a) (made_at g g1 g2) ∙ ap (λ X. X a) (restore_block R D (kind x) (place x) (p x) (q x) d inverse (need1 g g1) (need2 g g2) (flat1 g g1 h h1) (flat2 g g2 h h2)))
-                  (but_ext R n x (λ b. H (blocks b (f b)) a) (λ b. known b (g b) a) (λ b l k. ap (λ X. X a) (known_is b l k (f b) ∙ ap (known b) (made_each g g1 g2 h b k))))
-                  ∙ ring R (g2 a ∷ but R n x (λ b. known b (g b) a) ∷ []) (λ y z. y ⊖ z ⊕ z ≐ y) refl;
+                  sum_again R n x (λ b. H (blocks b (f b)) a) (λ b. known b (g b) a) (g2 a) inside (λ b l k. ap (λ X. X a) (known_is b l k (f b) ∙ ap (known b) (made_each g g1 g2 h b k)))
+                  (ap (λ X. H (blocks x X) a) (made_at g g1 g2) ∙ ap (λ X. X a) (restore_block R D (kind x) (place x) (p x) (q x) d inverse (need1 g g1) (need2 g g2) (flat1 g g1 h h1) (flat2 g g2 h h2)));
             },
           )
 

@@ -4,7 +4,7 @@ use Rattle.std.proofs.Common.{◌≡◌, ℕ, zero, suc, ◌+◌ as ◌plus◌, 
 use native.Mathlib.Decide.{ℕ_discrete}
 use Rattle.field.specs.Ring.{Ring}
 use Rattle.code.specs.Codes.{sum}
-use Rattle.field.proofs.Solver.{o, ◌⊕◌, ◌≐◌, ring}
+use Rattle.field.proofs.Solver.{o, i, ◌⊕◌, ◌⊖◌, ◌≐◌, ◌⟸◌, ◌·◌, ring, ring_by}
 
 -- one value at x, another elsewhere
 abbrev pub pick : {B : Type 0} {P : Type 0} → Dec P → B → B → B
@@ -49,6 +49,17 @@ module _ {A : Type 0} (R : Ring A) where
       go (no h) ih =
           ap (λ s. s + f n) (ih (omega arith))
           ∙ ring R (but n x f ∷ f x ∷ f n ∷ []) (λ s t v. t ⊕ s ⊕ v ≐ t ⊕ (s ⊕ v)) refl
+
+  -- a term from the sum and the others, and the sum from a term and the others, where g has the others of f
+  module _ (n x : ℕ) (f g : ℕ → A) (t : A) (l : x < n) (others : (b : ℕ) → b < n → b ≢ x → f b ≡ g b) where
+    parted : sum R n f ≡ f x + but n x g
+    parted = sum_but n x f l ∙ ap (λ s. f x + s) (but_ext n x f g others)
+
+    pub term_left : sum R n f ≡ t → f x ≡ t + neg (but n x g)
+    term_left e = ring_by R (f x ∷ t ∷ but n x g ∷ []) (λ y z w. y ≐ z ⊖ w ⟸ (i · y ⊕ w ≐ z) ∷ []) refl (sym parted ∙ e)
+
+    pub sum_again : f x ≡ t + neg (but n x g) → sum R n f ≡ t
+    sum_again e = parted ∙ ap (λ s. s + but n x g) e ∙ ring R (t ∷ but n x g ∷ []) (λ y z. y ⊖ z ⊕ z ≐ y) refl
 
 -- one term more
 pub sum_more : {A : Type 0} (R : Ring A) (n : ℕ) (f : ℕ → A) → sum R (n plus 1) f ≡ R.plus (sum R n f) (f n)

@@ -103,8 +103,14 @@ module _ {A : Type 0} (c : Code A) (ok : Proper c) where
     narrow : (C G : ℕ → A) → H C ≡ wide G → HalfAlike (half_for c x C) G
     narrow C G e j l = ap (join C) (sym (lower_partner k j)) ∙ ap (λ X. X (lower k j)) e ∙ ap G (pair_lower k j)
 
+    abbrev boxes : files.Boxes A
+    boxes = record { n = n; kind = kind c; place = shift c; apart = apart; p = eigen_p c; q = eigen_q c }
+
+    abbrev lost : files.Lost R boxes
+    lost = record { x = x; inside = hx; d = d; inverse = inverse }
+
     abbrev Theory : (f g : ℕ → ℕ → A) (g1 g2 : ℕ → A) → Type 0
-    Theory = files.Halves R rows n (kind c) (shift c) apart (eigen_p c) (eigen_q c) x
+    Theory = files.Halves R rows boxes x
 
     -- which column is whose
     column_data : (f : ℕ → ℕ → A) (b : ℕ) → b < n → column c f b ≡ f b
@@ -152,11 +158,11 @@ module _ {A : Type 0} (c : Code A) (ok : Proper c) where
     -- the column that the theory gives from the halves g
     abbrev known : (ℕ → ℕ → A) → ℕ → A
     known g =
-        files.given R rows n (kind c) (shift c) apart (eigen_p c) (eigen_q c) x hx d inverse (λ b. wide (g (seat x b))) (wide (g (seat x n))) (wide (g (seat x (suc n))))
+        files.given R rows boxes lost (λ b. wide (g (seat x b))) (wide (g (seat x n))) (wide (g (seat x (suc n))))
 
     trimmed : (f g : ℕ → ℕ → A) → HasHalves c x f g
-        → trim (f x) ≡ files.given R rows n (kind c) (shift c) apart (eigen_p c) (eigen_q c) x hx d inverse (λ b. trim (wide (g (seat x b)))) (trim (wide (g (seat x n)))) (trim (wide (g (seat x (suc n)))))
-    trimmed f g h = files.agree R rows n (kind c) (shift c) apart (eigen_p c) (eigen_q c) x hx d inverse _ _ _ _ (to_theory f g h)
+        → trim (f x) ≡ files.given R rows boxes lost (λ b. trim (wide (g (seat x b)))) (trim (wide (g (seat x n)))) (trim (wide (g (seat x (suc n)))))
+    trimmed f g h = files.agree R rows boxes lost _ _ _ _ (to_theory f g h)
 
     below : (C E : ℕ → A) → trim C ≡ trim E → Alike c C E
     below C E e a l = sym (cut_in R m C a l) ∙ ap (λ X. X a) e ∙ cut_in R m E a l
@@ -168,7 +174,7 @@ module _ {A : Type 0} (c : Code A) (ok : Proper c) where
     found : (g : ℕ → ℕ → A)
         → (f : ℕ → ℕ → A) × Theory f (λ b. wide (g (seat x b))) (wide (g (seat x n))) (wide (g (seat x (suc n))))
     found g =
-        files.exist R rows n (kind c) (shift c) apart (eigen_p c) (eigen_q c) x hx d inverse (λ b. wide (g (seat x b))) (wide (g (seat x n))) (wide (g (seat x (suc n))))
+        files.exist R rows boxes lost (λ b. wide (g (seat x b))) (wide (g (seat x n))) (wide (g (seat x (suc n))))
         (λ b. flat (g (seat x b))) (flat (g (seat x n))) (flat (g (seat x (suc n))))
 
     exists : (g : ℕ → ℕ → A) → (f : ℕ → ℕ → A) × HasHalves c x f g
@@ -181,7 +187,7 @@ module _ {A : Type 0} (c : Code A) (ok : Proper c) where
     unfolding exists
     known_given g f h a l =
         agree g f (found g).0 h (exists g).1 a l
-        ∙ ap (λ X. X a) (files.agree R rows n (kind c) (shift c) apart (eigen_p c) (eigen_q c) x hx d inverse _ _ _ _ (found g).1)
+        ∙ ap (λ X. X a) (files.agree R rows boxes lost _ _ _ _ (found g).1)
 
     -- the known column is the recovered one
     leave_out : (b : ℕ) (v w : A) → v ≡ w → pick (ℕ_discrete b x) R.zero v ≡ cond (eqb b x) R.zero w
@@ -192,21 +198,21 @@ module _ {A : Type 0} (c : Code A) (ok : Proper c) where
         ]
 
     image_half : (b : ℕ) (G : ℕ → A) (j : ℕ)
-        → files.known R rows n (kind c) (shift c) apart (eigen_p c) (eigen_q c) x hx d inverse b (wide G) (lower k j) ≡ half_image c x b G j
+        → files.known R rows boxes lost b (wide G) (lower k j) ≡ half_image c x b G j
     image_half b G j =
         elim (cases_eq (shift c b) k) [
           | inl h ↦
-              files.known_same R rows n (kind c) (shift c) apart (eigen_p c) (eigen_q c) x hx d inverse b h (wide G) (lower k j)
+              files.known_same R rows boxes lost b h (wide G) (lower k j)
               ∙ ap (λ y. R.times (eigenvalue R (kind c x) (kind c b) (eigen_p c b) (eigen_q c b)) (G y)) (pair_lower k j)
               ∙ sym (cond-true (eqb (shift c b) k) _ _ (eq-eqb (shift c b) k h))
           | inr h ↦
-              files.known_else R rows n (kind c) (shift c) apart (eigen_p c) (eigen_q c) x hx d inverse b h (wide G) (lower k j)
+              files.known_else R rows boxes lost b h (wide G) (lower k j)
               ∙ sym (cond-false (eqb (shift c b) k) _ _ (ne_eqb (shift c b) k h))
         ]
 
     known_recovered : (g : ℕ → ℕ → A) (b : Bool) (j : ℕ) → known g (partner k b (lower k j)) ≡ recovered c x d g j b
     known_recovered g b j =
-        files.given_at R rows n (kind c) (shift c) apart (eigen_p c) (eigen_q c) x hx d inverse (λ b. wide (g (seat x b))) (wide (g (seat x n))) (wide (g (seat x (suc n))))
+        files.given_at R rows boxes lost (λ b. wide (g (seat x b))) (wide (g (seat x n))) (wide (g (seat x (suc n))))
         (λ b. flat (g (seat x b))) (flat (g (seat x n))) (flat (g (seat x (suc n)))) b (lower k j)
         ∙ ap₂ (λ y z. recover R (kind c x) (eigen_p c x) (eigen_q c x) d y z b)
         (ap₂ (◌∸◌ R) (ap (g (seat x n)) (pair_lower k j)) (sum_ext R n _ _ (λ b l. leave_out b _ _ (ap (g (seat x b)) (pair_lower k j)))))
