@@ -1,8 +1,7 @@
 -- The column given by a set of halves: such files exist and agree in it, and it is what the recovery computes. Assumes nothing.
-use Rattle.std.proofs.Common.{◌≡◌, ℕ, zero, suc, ◌+◌, ◌-◌, ◌*◌, ◌/◌, ◌%◌, ◌^◌, ◌<◌, ◌≤◌, Bool, cond, eqb, ltb, ◌≢◌, [], ◌∷◌, sym, refl, ap, ◌∙◌, subst, ap₂, inl, inr, div-lt_iff_lt-mul, arith, le-ltb, lt-ltb, eq-eqb, ne_eqb}
+use Rattle.std.proofs.Common.{◌≡◌, ℕ, zero, suc, ◌+◌, ◌-◌, ◌*◌, ◌/◌, ◌%◌, ◌^◌, ◌<◌, ◌≤◌, Bool, cond, eqb, ltb, if◌then◌else◌, ◌==◌, ◌≢◌, [], ◌∷◌, sym, refl, ap, ◌∙◌, subst, ap₂, inl, inr, div-lt_iff_lt-mul, arith, le-ltb, lt-ltb, eq-eqb, ne_eqb}
 use mathlib.Core.Path.{fun_ext}
 use native.Mathlib.Nat.{div-add-mod}
-use native.Mathlib.Decide.{ℕ_discrete}
 use Rattle.std.proofs.lemmas.Bool.{cases_lt, cases_eq, cond-true, cond-false}
 use Rattle.field.specs.Ring.{Ring, Divides}
 use Rattle.field.specs.Symbols.{Symbols}
@@ -15,7 +14,7 @@ use Rattle.code.proofs.Digits.{rows}
 use Rattle.code.proofs.Pairing.{lower_partner, pair_lower, lower_pair, pair_partner, row_of_pair, pair_below, lower_below}
 use Rattle.code.proofs.Images.{image_same}
 use Rattle.code.proofs.Cuts.{cut, cut_in, cut_same, cut_after, cut_halved, cut_sum}
-use Rattle.code.proofs.Sums.{pick, pick_yes, pick_no, sum_ext, sum_more}
+use Rattle.code.proofs.Sums.{sum_ext, sum_more}
 use Rattle.code.proofs.Seats.{seat_most, seat_helper, helper_seat, helper_apart, helper_most}
 use Rattle.code.proofs.Halves as halves
 use Rattle.code.proofs.Files as files
@@ -190,33 +189,21 @@ module _ {A : Type 0} (c : Code A) (ok : Proper c) where
         ∙ ap (λ X. X a) (files.agree R rows boxes lost _ _ _ _ (found g).1)
 
     -- the known column is the recovered one
-    leave_out : (b : ℕ) (v w : A) → v ≡ w → pick (ℕ_discrete b x) R.zero v ≡ cond (eqb b x) R.zero w
-    leave_out b v w e =
-        elim (cases_eq b x) [
-          | inl h ↦ pick_yes (ℕ_discrete b x) R.zero v h ∙ sym (cond-true (eqb b x) R.zero w (eq-eqb b x h))
-          | inr h ↦ pick_no (ℕ_discrete b x) R.zero v h ∙ e ∙ sym (cond-false (eqb b x) R.zero w (ne_eqb b x h))
-        ]
-
-    image_half : (b : ℕ) (G : ℕ → A) (j : ℕ)
-        → files.known R rows boxes lost b (wide G) (lower k j) ≡ half_image c x b G j
+    image_half : (b : ℕ) (G : ℕ → A) (j : ℕ) → files.known R rows boxes lost b (wide G) (lower k j) ≡ half_image c x b G j
     image_half b G j =
-        elim (cases_eq (shift c b) k) [
-          | inl h ↦
-              files.known_same R rows boxes lost b h (wide G) (lower k j)
-              ∙ ap (λ y. R.times (eigenvalue R (kind c x) (kind c b) (eigen_p c b) (eigen_q c b)) (G y)) (pair_lower k j)
-              ∙ sym (cond-true (eqb (shift c b) k) _ _ (eq-eqb (shift c b) k h))
-          | inr h ↦
-              files.known_else R rows boxes lost b h (wide G) (lower k j)
-              ∙ sym (cond-false (eqb (shift c b) k) _ _ (ne_eqb (shift c b) k h))
-        ]
+        files.known_at R rows boxes lost b (wide G) (lower k j)
+        ∙ ap (λ v. if shift c b == k then R.times (eigenvalue R (kind c x) (kind c b) (eigen_p c b) (eigen_q c b)) (G v) else image c b (wide G) (lower k j)) (pair_lower k j)
+
+    left_out : (b : ℕ) (v w : A) → v ≡ w → (if b == x then R.zero else v) ≡ (if b == x then R.zero else w)
+    left_out b v w e = ap (λ v. if b == x then R.zero else v) e
 
     known_recovered : (g : ℕ → ℕ → A) (b : Bool) (j : ℕ) → known g (partner k b (lower k j)) ≡ recovered c x d g j b
     known_recovered g b j =
         files.given_at R rows boxes lost (λ b. wide (g (seat x b))) (wide (g (seat x n))) (wide (g (seat x (suc n))))
         (λ b. flat (g (seat x b))) (flat (g (seat x n))) (flat (g (seat x (suc n)))) b (lower k j)
         ∙ ap₂ (λ y z. recover R (kind c x) (eigen_p c x) (eigen_q c x) d y z b)
-        (ap₂ (◌∸◌ R) (ap (g (seat x n)) (pair_lower k j)) (sum_ext R n _ _ (λ b l. leave_out b _ _ (ap (g (seat x b)) (pair_lower k j)))))
-        (ap₂ (◌∸◌ R) (ap (g (seat x (suc n))) (pair_lower k j)) (sum_ext R n _ _ (λ b l. leave_out b _ _ (image_half b (g (seat x b)) j))))
+        (ap₂ (◌∸◌ R) (ap (g (seat x n)) (pair_lower k j)) (sum_ext R n _ _ (λ b l. left_out b _ _ (ap (g (seat x b)) (pair_lower k j)))))
+        (ap₂ (◌∸◌ R) (ap (g (seat x (suc n))) (pair_lower k j)) (sum_ext R n _ _ (λ b l. left_out b _ _ (image_half b (g (seat x b)) j))))
 
     -- so a column that is recovered pair by pair is the column given by the halves
     pub recovered_given : (g : ℕ → ℕ → A) (C : ℕ → A) → ((a : ℕ) → a < 2 ^ m → C a ≡ recovered c x d g (pair_of k a) (odd (digit k a))) → Given c x g C
