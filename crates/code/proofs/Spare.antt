@@ -1,7 +1,8 @@
 -- No number of the halves can be spared: with one number raised by one, the halves give another lost column. Assumes nothing.
-use Rattle.std.proofs.Common.{◌≡◌, ℕ, suc, ◌+◌, ◌-◌, ◌*◌, ◌^◌, ◌<◌, ◌≤◌, Bool, true, false, cond, ◌&&◌, eqb, ◌≢◌, [], ◌∷◌, sym, refl, ap, ◌∙◌, subst, ap₂, inl, inr, arith, eq-eqb, ne_eqb}
+use Rattle.std.proofs.Common.{◌≡◌, ℕ, suc, ◌+◌, ◌-◌, ◌*◌, ◌^◌, ◌<◌, ◌≤◌, Bool, true, false, ◌&&◌, if◌then◌else◌, ◌==◌, ◌≢◌, [], ◌∷◌, sym, refl, ap, ◌∙◌, subst, ap₂, inl, inr, arith}
 use mathlib.Core.Path.{fun_ext}
-use Rattle.std.proofs.lemmas.Bool.{cases_lt, cases_eq, cond-true, cond-false, and_from, and_left, and_right}
+use Rattle.std.proofs.lemmas.Bool.{cases_eq, cases_order}
+use Rattle.std.proofs.lemmas.Bool.Decides.{nat_tests}
 use Rattle.field.specs.Ring.{Ring, Divides}
 use Rattle.field.proofs.Solver.{o, i, ◌⊕◌, ◌⊖◌, ◌≐◌, ◌⟸◌, ◌·◌, ⊝◌, ring_by}
 use Rattle.code.specs.Blocks.{◌∸◌}
@@ -11,53 +12,48 @@ use Rattle.code.specs.Recovery.{seat, recover, half_image, taken, taken_image, l
 use Rattle.code.specs.Rows.{odd, digit, lower, pair_of}
 use Rattle.code.specs.declared.Kind.{Kind}
 use Rattle.code.proofs.Matrices.{mat, half_m, recover_half, recover_block}
-use Rattle.code.proofs.Operators.{times}
+use Rattle.code.proofs.Operators.{mix, times}
 use Rattle.code.proofs.Pairing.{pair_lower, pair_upper, digit_lower, digit_upper, lower_below, upper_below}
 use Rattle.code.proofs.Seats.{seat_apart, seat_helper, helper_apart, helper_most}
-use Rattle.code.proofs.Sums.{but, sum_ext, but_ext, sum_but}
+use Rattle.code.proofs.Sums.{but, if_same, if_other, sum_ext, but_ext, sum_but}
 use Rattle.code.proofs.Theory.{gap, shift_below, restorable, recovered_given}
 
 module _ {A : Type 0} (R : Ring A) where
   -- a sum in which one term is raised
   sum_raised : (n b : ℕ) (f f' : ℕ → A) (e : A) → b < n → f' b ≡ R.plus (f b) e → ((a : ℕ) → a < n → a ≢ b → f' a ≡ f a)
       → sum R n f' ≡ R.plus (sum R n f) e
-  sum_raised n b f f' e l at else =
+  sum_raised n b f f' e l at others =
       ring_by R (sum R n f' ∷ sum R n f ∷ f' b ∷ f b ∷ but R n b f ∷ e ∷ [])
       (λ s' s t' t r e. s' ≐ s ⊕ e ⟸ (i · s' ≐ t' ⊕ r) ∷ (i · t ⊕ r ≐ s) ∷ (i · t' ≐ t ⊕ e) ∷ []) refl
-      (sum_but R n b f' l ∙ ap (R.plus (f' b)) (but_ext R n b f' f else)) (sym (sum_but R n b f l)) at
+      (sum_but R n b f' l ∙ ap (R.plus (f' b)) (but_ext R n b f' f others)) (sym (sum_but R n b f l)) at
 
   -- a pair that is recovered tells what it was recovered from
   same_half : (u : Kind) (p q d g h g' h' : A) → R.times d (◌∸◌ R q p) ≡ R.one
       → ((b : Bool) → recover R u p q d g h b ≡ recover R u p q d g' h' b) → g ≡ g'
   same_half u p q d g h g' h' inverse e =
       sym (recover_half R u p q d g h false inverse)
-      ∙ ap₂ (λ s t. R.plus (R.times (half_m R u false false) s) (R.times (half_m R u false true) t)) (e false) (e true)
+      ∙ ap₂ (mix R (half_m R u) false) (e false) (e true)
       ∙ recover_half R u p q d g' h' false inverse
 
   same_block : (u : Kind) (p q d g h g' h' : A) → R.times d (◌∸◌ R q p) ≡ R.one
       → ((b : Bool) → recover R u p q d g h b ≡ recover R u p q d g' h' b) → h ≡ h'
   same_block u p q d g h g' h' inverse e =
-      let N = times R (half_m R u) (mat R u p q) in
       sym (recover_block R u p q d g h false inverse)
-      ∙ ap₂ (λ s t. R.plus (R.times (N false false) s) (R.times (N false true) t)) (e false) (e true)
+      ∙ ap₂ (mix R (times R (half_m R u) (mat R u p q)) false) (e false) (e true)
       ∙ recover_block R u p q d g' h' false inverse
 
   -- the halves with number j in place h raised by one
   abbrev raised : ℕ → ℕ → (ℕ → ℕ → A) → ℕ → ℕ → A
-  raised h j g y l = cond (eqb y h && eqb l j) (R.plus (g y l) R.one) (g y l)
+  raised h j g y l = if y == h && l == j then R.plus (g y l) R.one else g y l
 
   raised_at : (h j : ℕ) (g : ℕ → ℕ → A) → raised h j g h j ≡ R.plus (g h j) R.one
-  raised_at h j g = cond-true (eqb h h && eqb j j) _ _ (and_from (eqb h h) (eqb j j) (eq-eqb h h refl) (eq-eqb j j refl))
+  raised_at h j g = grind (arith, nat_tests)
 
   raised_else : (h j : ℕ) (g : ℕ → ℕ → A) (y : ℕ) → y ≢ h → raised h j g y ≡ g y
-  raised_else h j g y n = fun_ext λ l. cond-false (eqb y h && eqb l j) _ _ (and_left (eqb y h) (eqb l j) (ne_eqb y h n))
+  raised_else h j g y n = fun_ext λ l. grind (arith, nat_tests)
 
-  raised_but : (h j : ℕ) (g : ℕ → ℕ → A) (y l : ℕ) → (y ≡ h → l ≡ j → ⊥) → raised h j g y l ≡ g y l
-  raised_but h j g y l n =
-      elim (cases_eq y h) [
-        | inl e ↦ cond-false (eqb y h && eqb l j) _ _ (and_right (eqb y h) (eqb l j) (ne_eqb l j (n e)))
-        | inr e ↦ ap (λ X. X l) (raised_else h j g y e)
-      ]
+  raised_but : (h j : ℕ) (g : ℕ → ℕ → A) (y l : ℕ) → (y ≡ h → l ≢ j) → raised h j g y l ≡ g y l
+  raised_but h j g y l n = grind (arith, nat_tests)
 
   -- a difference with one of its two sides raised by one is another, unless zero is one
   more_differs : (p t p' t' : A) → p' ≡ R.plus p R.one → t' ≡ t → ◌∸◌ R p t ≡ ◌∸◌ R p' t' → R.zero ≡ R.one
@@ -90,18 +86,16 @@ module _ {A : Type 0} (c : Code A) (x : ℕ) (hx : x < data_boxes c) where
     else_box a h e = raised_else R (seat x b) j g (seat x a) (seat_apart x a b h hb e)
 
     -- what another box takes off is as it was
-    else_term : (F : (ℕ → A) → A) (a : ℕ) → a ≢ b → cond (eqb a x) R.zero (F (g' (seat x a))) ≡ cond (eqb a x) R.zero (F (g (seat x a)))
+    else_term : (F : (ℕ → A) → A) (a : ℕ) → a ≢ b → (if a == x then R.zero else F (g' (seat x a))) ≡ (if a == x then R.zero else F (g (seat x a)))
     else_term F a e =
         elim (cases_eq a x) [
-          | inl h ↦ cond-true (eqb a x) _ _ (eq-eqb a x h) ∙ sym (cond-true (eqb a x) _ _ (eq-eqb a x h))
-          | inr h ↦ ap (λ G. cond (eqb a x) R.zero (F G)) (else_box a h e)
+          | inl h ↦ if_same a x h _ _ ∙ sym (if_same a x h _ _)
+          | inr h ↦ ap (λ G. if a == x then R.zero else F G) (else_box a h e)
         ]
 
     -- and what box b itself takes off is one more
-    own_term : cond (eqb b x) R.zero (g' (seat x b) j) ≡ R.plus (cond (eqb b x) R.zero (g (seat x b) j)) R.one
-    own_term =
-        cond-false (eqb b x) _ _ (ne_eqb b x hb) ∙ raised_at R (seat x b) j g
-        ∙ ap (λ v. R.plus v R.one) (sym (cond-false (eqb b x) _ _ (ne_eqb b x hb)))
+    own_term : (if b == x then R.zero else g' (seat x b) j) ≡ R.plus (if b == x then R.zero else g (seat x b) j) R.one
+    own_term = if_other b x hb _ _ ∙ raised_at R (seat x b) j g ∙ ap (λ v. R.plus v R.one) (sym (if_other b x hb _ _))
 
     own_half : (a : ℕ) → b ≡ a → g' (seat x a) j ≡ R.plus (g (seat x a) j) R.one
     own_half a e = subst (λ y. g' (seat x y) j ≡ R.plus (g (seat x y) j) R.one) e (raised_at R (seat x b) j g)
@@ -123,13 +117,10 @@ module _ {A : Type 0} (c : Code A) (x : ℕ) (hx : x < data_boxes c) where
 
     differs : b < suc (suc n) → lost_half c x g j ≡ lost_half c x g' j → lost_image c x g j ≡ lost_image c x g' j → R.zero ≡ R.one
     differs l e e' =
-        elim (cases_lt b n) [
-          | inl h ↦ data_differs h e
-          | inr h ↦
-              elim (cases_eq b n) [
-                | inl v ↦ first_differs v e
-                | inr v ↦ second_differs (omega arith) e'
-              ]
+        elim (cases_order b n) [
+          | inl v ↦ first_differs v e
+          | inr (inl h) ↦ data_differs h e
+          | inr (inr h) ↦ second_differs (omega arith) e'
         ]
 
   -- the same by the helper's place

@@ -1,8 +1,8 @@
 -- The column given by a set of halves: such files exist and agree in it, and it is what the recovery computes. Assumes nothing.
-use Rattle.std.proofs.Common.{◌≡◌, ℕ, zero, suc, ◌+◌, ◌-◌, ◌*◌, ◌/◌, ◌%◌, ◌^◌, ◌<◌, ◌≤◌, Bool, cond, eqb, ltb, if◌then◌else◌, ◌==◌, ◌≢◌, [], ◌∷◌, sym, refl, ap, ◌∙◌, subst, ap₂, inl, inr, div-lt_iff_lt-mul, arith, le-ltb, lt-ltb, eq-eqb, ne_eqb}
+use Rattle.std.proofs.Common.{◌≡◌, ℕ, zero, suc, ◌+◌, ◌-◌, ◌*◌, ◌/◌, ◌%◌, ◌^◌, ◌<◌, ◌≤◌, Bool, if◌then◌else◌, nat_lt, ◌==◌, ◌≢◌, [], ◌∷◌, sym, refl, ap, ◌∙◌, subst, ap₂, inl, inr, div-lt_iff_lt-mul, arith, le-ltb, lt-ltb}
 use mathlib.Core.Path.{fun_ext}
 use native.Mathlib.Nat.{div-add-mod}
-use Rattle.std.proofs.lemmas.Bool.{cases_lt, cases_eq, cond-true, cond-false}
+use Rattle.std.proofs.lemmas.Bool.{cases_order, cond-true, cond-false}
 use Rattle.field.specs.Ring.{Ring, Divides}
 use Rattle.field.specs.Symbols.{Symbols}
 use Rattle.field.proofs.Solver.{o, i, ◌⊕◌, ◌⊖◌, ◌≐◌, ◌⟸◌, ◌·◌, ring, ring_by}
@@ -14,7 +14,7 @@ use Rattle.code.proofs.Digits.{rows}
 use Rattle.code.proofs.Pairing.{lower_partner, pair_lower, lower_pair, pair_partner, row_of_pair, pair_below, lower_below}
 use Rattle.code.proofs.Images.{image_same}
 use Rattle.code.proofs.Cuts.{cut, cut_in, cut_same, cut_after, cut_halved, cut_sum}
-use Rattle.code.proofs.Sums.{sum_ext, sum_more}
+use Rattle.code.proofs.Sums.{if_same, if_other, sum_ext, sum_more}
 use Rattle.code.proofs.Seats.{seat_most, seat_helper, helper_seat, helper_apart, helper_most}
 use Rattle.code.proofs.Halves as halves
 use Rattle.code.proofs.Files as files
@@ -91,6 +91,9 @@ module _ {A : Type 0} (c : Code A) (ok : Proper c) where
     abbrev wide : (ℕ → A) → ℕ → A
     wide G a = G (pair_of k a)
 
+    abbrev wides : (ℕ → ℕ → A) → ℕ → ℕ → A
+    wides g b = wide (g (seat x b))
+
     abbrev join : (ℕ → A) → ℕ → A
     join C a = half R (kind c x) (C a) (C (a + 2 ^ k))
 
@@ -113,42 +116,40 @@ module _ {A : Type 0} (c : Code A) (ok : Proper c) where
 
     -- which column is whose
     column_data : (f : ℕ → ℕ → A) (b : ℕ) → b < n → column c f b ≡ f b
-    column_data f b l = cond-true (ltb b n) _ _ (lt-ltb b n l)
+    column_data f b l = cond-true (nat_lt b n) _ _ (lt-ltb b n l)
 
-    column_first : (f : ℕ → ℕ → A) → column c f n ≡ parity1 c f
-    column_first f = cond-false (ltb n n) _ _ (le-ltb n n (omega arith)) ∙ cond-true (eqb n n) _ _ (eq-eqb n n refl)
+    column_first : (f : ℕ → ℕ → A) (b : ℕ) → b ≡ n → column c f b ≡ parity1 c f
+    column_first f b e = cond-false (nat_lt b n) _ _ (le-ltb b n (omega arith)) ∙ if_same b n e _ _
 
-    column_second : (f : ℕ → ℕ → A) → column c f (suc n) ≡ parity2 c f
-    column_second f = cond-false (ltb (suc n) n) _ _ (le-ltb (suc n) n (omega arith)) ∙ cond-false (eqb (suc n) n) _ _ (ne_eqb (suc n) n (λ e. omega arith))
+    column_second : (f : ℕ → ℕ → A) (b : ℕ) → b ≡ suc n → column c f b ≡ parity2 c f
+    column_second f b e = cond-false (nat_lt b n) _ _ (le-ltb b n (omega arith)) ∙ if_other b n (λ o. omega arith) _ _
 
-    -- a helper's half, by its box
-    by_box : (f g : ℕ → ℕ → A) → HasHalves c x f g → (b : ℕ) → b ≢ x → b < suc (suc n) → HalfAlike (half_for c x (column c f b)) (g (seat x b))
-    by_box f g h b e l j lj =
-        ap (λ y. half_for c x (column c f y) j) (sym (helper_seat c x b e)) ∙ h (seat x b) (seat_most x b (suc n) (omega arith) e l) j lj
+    -- a helper's half, by its box and what column that box has
+    by_box : (f g : ℕ → ℕ → A) → HasHalves c x f g → (b : ℕ) (C : ℕ → A) → column c f b ≡ C → b ≢ x → b < suc (suc n) → H (trim C) ≡ trim (wides g b)
+    by_box f g h b C is e l = widen C (g (seat x b)) λ j lj.
+        ap (λ X. half_for c x X j) (sym is) ∙ ap (λ y. half_for c x (column c f y) j) (sym (helper_seat c x b e))
+        ∙ h (seat x b) (seat_most x b (suc n) (omega arith) e l) j lj
 
-    to_theory : (f g : ℕ → ℕ → A) → HasHalves c x f g
-        → Theory (λ b. trim (f b)) (λ b. trim (wide (g (seat x b)))) (trim (wide (g (seat x n)))) (trim (wide (g (seat x (suc n)))))
+    to_theory : (f g : ℕ → ℕ → A) → HasHalves c x f g → Theory (λ b. trim (f b)) (λ b. trim (wides g b)) (trim (wides g n)) (trim (wides g (suc n)))
     to_theory f g h = record {
-      each = λ b l e. widen (f b) (g (seat x b)) (subst (λ (C : ℕ → A). HalfAlike (half_for c x C) (g (seat x b))) (column_data f b l) (by_box f g h b e (omega arith)));
-      first = ap H (trim1 f) ∙ widen (parity1 c f) (g (seat x n)) (subst (λ (C : ℕ → A). HalfAlike (half_for c x C) (g (seat x n))) (column_first f) (by_box f g h n (λ e. omega arith) (omega arith)));
-      second = ap H (trim2 f) ∙ widen (parity2 c f) (g (seat x (suc n))) (subst (λ (C : ℕ → A). HalfAlike (half_for c x C) (g (seat x (suc n)))) (column_second f) (by_box f g h (suc n) (λ e. omega arith) (omega arith)));
+      each = λ b l e. by_box f g h b (f b) (column_data f b l) e (omega arith);
+      first = ap H (trim1 f) ∙ by_box f g h n (parity1 c f) (column_first f n refl) (λ e. omega arith) (omega arith);
+      second = ap H (trim2 f) ∙ by_box f g h (suc n) (parity2 c f) (column_second f (suc n) refl) (λ e. omega arith) (omega arith);
     }
 
-    from_theory : (f g : ℕ → ℕ → A) → Theory f (λ b. wide (g (seat x b))) (wide (g (seat x n))) (wide (g (seat x (suc n)))) → HasHalves c x f g
+    from_theory : (f g : ℕ → ℕ → A) → Theory f (wides g) (wides g n) (wides g (suc n)) → HasHalves c x f g
     from_theory f g t h l =
         subst (λ y. HalfAlike (half_for c x (column c f (helper c x h))) (g y)) (seat_helper c x h) (at (helper c x h) (helper_apart c x h) (helper_most c x h (suc n) l))
       where
+        has : (b : ℕ) (C : ℕ → A) → column c f b ≡ C → H C ≡ wides g b → HalfAlike (half_for c x (column c f b)) (g (seat x b))
+        has b C is e j l = ap (λ X. half_for c x X j) is ∙ narrow C (g (seat x b)) e j l
+
         at : (b : ℕ) → b ≢ x → b < suc (suc n) → HalfAlike (half_for c x (column c f b)) (g (seat x b))
         at b e l =
-            elim (cases_lt b n) [
-              | inl w ↦ subst (λ (C : ℕ → A). HalfAlike (half_for c x C) (g (seat x b))) (sym (column_data f b w)) (narrow (f b) (g (seat x b)) (t.each b w e))
-              | inr w ↦
-                  elim (cases_eq b n) [
-                    | inl v ↦ subst (λ b. HalfAlike (half_for c x (column c f b)) (g (seat x b))) (sym v)
-                        (subst (λ (C : ℕ → A). HalfAlike (half_for c x C) (g (seat x n))) (sym (column_first f)) (narrow (parity1 c f) (g (seat x n)) t.first))
-                    | inr v ↦ let u : b ≡ suc n = omega arith in subst (λ b. HalfAlike (half_for c x (column c f b)) (g (seat x b))) (sym u)
-                        (subst (λ (C : ℕ → A). HalfAlike (half_for c x C) (g (seat x (suc n)))) (sym (column_second f)) (narrow (parity2 c f) (g (seat x (suc n))) t.second))
-                  ]
+            elim (cases_order b n) [
+              | inl v ↦ has b (parity1 c f) (column_first f b v) (t.first ∙ ap (wides g) (sym v))
+              | inr (inl w) ↦ has b (f b) (column_data f b w) (t.each b w e)
+              | inr (inr w) ↦ let v : b ≡ suc n = omega arith in has b (parity2 c f) (column_second f b v) (t.second ∙ ap (wides g) (sym v))
             ]
 
     flat : (g : ℕ → A) → halves.Flat R rows k (wide g)
@@ -157,10 +158,10 @@ module _ {A : Type 0} (c : Code A) (ok : Proper c) where
     -- the column that the theory gives from the halves g
     abbrev known : (ℕ → ℕ → A) → ℕ → A
     known g =
-        files.given R rows boxes lost (λ b. wide (g (seat x b))) (wide (g (seat x n))) (wide (g (seat x (suc n))))
+        files.given R rows boxes lost (wides g) (wides g n) (wides g (suc n))
 
     trimmed : (f g : ℕ → ℕ → A) → HasHalves c x f g
-        → trim (f x) ≡ files.given R rows boxes lost (λ b. trim (wide (g (seat x b)))) (trim (wide (g (seat x n)))) (trim (wide (g (seat x (suc n)))))
+        → trim (f x) ≡ files.given R rows boxes lost (λ b. trim (wides g b)) (trim (wides g n)) (trim (wides g (suc n)))
     trimmed f g h = files.agree R rows boxes lost _ _ _ _ (to_theory f g h)
 
     below : (C E : ℕ → A) → trim C ≡ trim E → Alike c C E
@@ -171,9 +172,9 @@ module _ {A : Type 0} (c : Code A) (ok : Proper c) where
 
     -- a file that has the halves, and whose lost column is the known one
     found : (g : ℕ → ℕ → A)
-        → (f : ℕ → ℕ → A) × Theory f (λ b. wide (g (seat x b))) (wide (g (seat x n))) (wide (g (seat x (suc n))))
+        → (f : ℕ → ℕ → A) × Theory f (wides g) (wides g n) (wides g (suc n))
     found g =
-        files.exist R rows boxes lost (λ b. wide (g (seat x b))) (wide (g (seat x n))) (wide (g (seat x (suc n))))
+        files.exist R rows boxes lost (wides g) (wides g n) (wides g (suc n))
         (λ b. flat (g (seat x b))) (flat (g (seat x n))) (flat (g (seat x (suc n))))
 
     exists : (g : ℕ → ℕ → A) → (f : ℕ → ℕ → A) × HasHalves c x f g
@@ -199,7 +200,7 @@ module _ {A : Type 0} (c : Code A) (ok : Proper c) where
 
     known_recovered : (g : ℕ → ℕ → A) (b : Bool) (j : ℕ) → known g (partner k b (lower k j)) ≡ recovered c x d g j b
     known_recovered g b j =
-        files.given_at R rows boxes lost (λ b. wide (g (seat x b))) (wide (g (seat x n))) (wide (g (seat x (suc n))))
+        files.given_at R rows boxes lost (wides g) (wides g n) (wides g (suc n))
         (λ b. flat (g (seat x b))) (flat (g (seat x n))) (flat (g (seat x (suc n)))) b (lower k j)
         ∙ ap₂ (λ y z. recover R (kind c x) (eigen_p c x) (eigen_q c x) d y z b)
         (ap₂ (◌∸◌ R) (ap (g (seat x n)) (pair_lower k j)) (sum_ext R n _ _ (λ b l. left_out b _ _ (ap (g (seat x b)) (pair_lower k j)))))
@@ -228,7 +229,7 @@ proper Y m h k = record {
 -- a helper's half of the image depends on the pairs below 2 ^ (m - 1) alone
 pub half_image_same : {A : Type 0} (c : Code A) (x b : ℕ) (G H : ℕ → A) → shift c x < c.size → shift c b < c.size → ((j : ℕ) → j < 2 ^ (c.size - 1) → G j ≡ H j) → (j : ℕ) → j < 2 ^ (c.size - 1) → half_image c x b G j ≡ half_image c x b H j
 half_image_same c x b G H hx hb same j l =
-    ap₂ (cond (eqb (shift c b) (shift c x))) (ap (c.ring.times (eigenvalue c.ring (kind c x) (kind c b) (eigen_p c b) (eigen_q c b))) (same j l))
+    ap₂ (λ s t. if shift c b == shift c x then s else t) (ap (c.ring.times (eigenvalue c.ring (kind c x) (kind c b) (eigen_p c b) (eigen_q c b))) (same j l))
     (image_same c b (λ a. G (pair_of (shift c x) a)) (λ a. H (pair_of (shift c x) a)) hb (λ a k. same (pair_of (shift c x) a) (pair_below c.size (shift c x) a hx k)) (lower (shift c x) j) (lower_below c.size (shift c x) j hx l))
 
 -- differences, one term at a time
