@@ -27,9 +27,6 @@ rows_of_pair m k j w hm hk below is positive =
       bound = let top : lower k j + 2 ^ k < 2 ^ m = upper_below m k j hk below in omega arith;
     }
 
-pub shift_less : (m b : ℕ) → 1 ≤ m → m - (b % m + 1) < m
-shift_less m b h = omega arith
-
 -- the rows of a pair, by the size and the digit that the code names
 pub rows_named : {m k m' k' j low high : ℕ} → m ≡ m' → k ≡ k' → RowsOfPair m k j low high → RowsOfPair m' k' j low high
 rows_named {m = m} {k' = k'} {j = j} {low = low} {high = high} em ek rows =

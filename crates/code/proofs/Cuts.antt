@@ -1,6 +1,6 @@
 -- Columns cut to the rows below 2 ^ m: what a matrix does along a digit below m stays below.
 -- Assumes nothing.
-use Rattle.std.proofs.Common.{◌≡◌, ℕ, zero, suc, ◌^◌, ◌<◌, ◌≤◌, Bool, true, false, if◌then◌else◌, nat_lt, [], ◌∷◌, sym, refl, ap, ◌∙◌, subst, ap₂, inl, inr, le-ltb, lt-ltb, arith}
+use Rattle.std.proofs.Common.{◌≡◌, ℕ, zero, suc, ◌^◌, ◌<◌, ◌≤◌, Bool, true, false, if◌then◌else◌, nat_lt, [], ◌∷◌, sym, refl, ap, ◌∙◌, ap₂, inl, inr, le-ltb, lt-ltb, arith}
 use mathlib.Core.Path.{fun_ext}
 use Rattle.std.proofs.lemmas.Bool.{cases_lt, cond-true, cond-false}
 use Rattle.field.specs.Ring.{Ring}
@@ -14,14 +14,10 @@ use Rattle.code.proofs.Matrices.{mat, half_m}
 use Rattle.code.proofs.Halves.{after, halved, after_op, halved_op}
 use Rattle.code.proofs.Sums.{sum_ext}
 
-partner_back : (m k : ℕ) (b : Bool) (a : ℕ) → k < m → partner k b a < 2 ^ m → a < 2 ^ m
-partner_back m k b a h l =
-    subst (λ n. n < 2 ^ m) (to_to_c k (odd (digit k a)) b a ∙ to_bit_c k a) (partner_lt m k (odd (digit k a)) (partner k b a) h l)
-
 partner_above : (m k : ℕ) (b : Bool) (a : ℕ) → k < m → 2 ^ m ≤ a → 2 ^ m ≤ partner k b a
 partner_above m k b a h l =
     elim (cases_lt (partner k b a) (2 ^ m)) [
-      | inl w ↦ absurd (omega (arith, partner_back m k b a h w))
+      | inl w ↦ let back : partner k (odd (digit k a)) (partner k b a) ≡ a = to_to_c k (odd (digit k a)) b a ∙ to_bit_c k a in absurd (omega (arith, partner_lt m k (odd (digit k a)) (partner k b a) h w))
       | inr w ↦ w
     ]
 

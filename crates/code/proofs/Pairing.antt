@@ -79,12 +79,6 @@ digit_lower k j = ap (λ a. odd (digit k a)) (sym (lower_partner k j)) ∙ bit_t
 pub digit_upper : (k j : ℕ) → odd (digit k (lower k j + 2 ^ k)) ≡ true
 digit_upper k j = ap (λ a. odd (digit k a)) (sym (upper_partner k j)) ∙ bit_to_c k true (lower k j)
 
-pub upper_to_lower : (k j : ℕ) → partner k false (lower k j + 2 ^ k) ≡ lower k j
-upper_to_lower k j = ap (partner k false) (sym (upper_partner k j)) ∙ to_to_c k false true (lower k j) ∙ lower_partner k j
-
-pub upper_to_upper : (k j : ℕ) → partner k true (lower k j + 2 ^ k) ≡ lower k j + 2 ^ k
-upper_to_upper k j = ap (λ n. n + 2 ^ k) (upper_to_lower k j)
-
 -- what the definitions of rows mean
 lower_all : (k a : ℕ) → odd (digit k a) ≡ false → (j : ℕ) × (lower k j ≡ a)
 lower_all k a e = (pair_of k a, lower_pair k a ∙ ap (λ b. partner k b a) (sym e) ∙ to_bit_c k a)

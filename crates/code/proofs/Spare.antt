@@ -1,7 +1,7 @@
 -- No number of the halves can be spared: with one number raised by one, the halves give another lost column. Assumes nothing.
-use Rattle.std.proofs.Common.{◌≡◌, ℕ, suc, ◌+◌, ◌-◌, ◌*◌, ◌^◌, ◌<◌, ◌≤◌, Bool, true, false, ◌&&◌, if◌then◌else◌, ◌==◌, ◌≢◌, [], ◌∷◌, sym, refl, ap, ◌∙◌, subst, ap₂, inl, inr, arith}
+use Rattle.std.proofs.Common.{◌≡◌, ℕ, suc, ◌-◌, ◌*◌, ◌^◌, ◌<◌, ◌≤◌, Bool, true, false, ◌&&◌, if◌then◌else◌, ◌==◌, ◌≢◌, [], ◌∷◌, sym, refl, ap, ◌∙◌, subst, ap₂, inl, inr, arith}
 use mathlib.Core.Path.{fun_ext}
-use Rattle.std.proofs.lemmas.Bool.{cases_eq, cases_order}
+use Rattle.std.proofs.lemmas.Bool.{cases_order}
 use Rattle.std.proofs.lemmas.Bool.Decides.{nat_tests}
 use Rattle.field.specs.Ring.{Ring, Divides}
 use Rattle.field.proofs.Solver.{o, i, ◌⊕◌, ◌⊖◌, ◌≐◌, ◌⟸◌, ◌·◌, ⊝◌, ring_by}
@@ -9,13 +9,14 @@ use Rattle.code.specs.Blocks.{◌∸◌}
 use Rattle.code.specs.Codes.{Code, Proper, sum, kind, shift, eigen_p, eigen_q, column, half_for, helper, data_boxes, Alike, HasHalves}
 use Rattle.code.specs.Laws.{NoneToSpare}
 use Rattle.code.specs.Recovery.{seat, recover, half_image, taken, taken_image, lost_half, lost_image, recovered}
-use Rattle.code.specs.Rows.{odd, digit, lower, pair_of}
+use Rattle.code.specs.Rows.{odd, digit, partner, lower, pair_of}
 use Rattle.code.specs.declared.Kind.{Kind}
+use Rattle.code.proofs.Digits.{partner_lt, bit_to_c}
 use Rattle.code.proofs.Matrices.{mat, half_m, recover_half, recover_block}
 use Rattle.code.proofs.Operators.{mix, times}
-use Rattle.code.proofs.Pairing.{pair_lower, pair_upper, digit_lower, digit_upper, lower_below, upper_below}
+use Rattle.code.proofs.Pairing.{pair_lower, pair_partner, lower_below}
 use Rattle.code.proofs.Seats.{seat_apart, seat_helper, helper_apart, helper_most}
-use Rattle.code.proofs.Sums.{but, if_same, if_other, sum_ext, but_ext, sum_but}
+use Rattle.code.proofs.Sums.{but, if_other, left_out, but_ext, sum_but}
 use Rattle.code.proofs.Theory.{gap, shift_below, restorable, recovered_given}
 
 module _ {A : Type 0} (R : Ring A) where
@@ -85,15 +86,7 @@ module _ {A : Type 0} (c : Code A) (x : ℕ) (hx : x < data_boxes c) where
     else_box : (a : ℕ) → a ≢ x → a ≢ b → g' (seat x a) ≡ g (seat x a)
     else_box a h e = raised_else R (seat x b) j g (seat x a) (seat_apart x a b h hb e)
 
-    -- what another box takes off is as it was
-    else_term : (F : (ℕ → A) → A) (a : ℕ) → a ≢ b → (if a == x then R.zero else F (g' (seat x a))) ≡ (if a == x then R.zero else F (g (seat x a)))
-    else_term F a e =
-        elim (cases_eq a x) [
-          | inl h ↦ if_same a x h _ _ ∙ sym (if_same a x h _ _)
-          | inr h ↦ ap (λ G. if a == x then R.zero else F G) (else_box a h e)
-        ]
-
-    -- and what box b itself takes off is one more
+    -- what box b takes off is one more
     own_term : (if b == x then R.zero else g' (seat x b) j) ≡ R.plus (if b == x then R.zero else g (seat x b) j) R.one
     own_term = if_other b x hb _ _ ∙ raised_at R (seat x b) j g ∙ ap (λ v. R.plus v R.one) (sym (if_other b x hb _ _))
 
@@ -103,17 +96,17 @@ module _ {A : Type 0} (c : Code A) (x : ℕ) (hx : x < data_boxes c) where
     data_differs : b < n → lost_half c x g j ≡ lost_half c x g' j → R.zero ≡ R.one
     data_differs l =
         less_differs R (g (seat x n) j) (taken c x n g j) (g' (seat x n) j) (taken c x n g' j) (ap (λ G. G j) (else_box n (λ e. omega arith) (λ e. omega arith)))
-        (sum_raised R n b _ _ R.one l own_term (λ a h e. else_term (λ G. G j) a e))
+        (sum_raised R n b _ _ R.one l own_term (λ a h e. left_out R a x _ _ (λ k. ap (λ G. G j) (else_box a k e))))
 
     first_differs : b ≡ n → lost_half c x g j ≡ lost_half c x g' j → R.zero ≡ R.one
     first_differs h =
         more_differs R (g (seat x n) j) (taken c x n g j) (g' (seat x n) j) (taken c x n g' j) (own_half n h)
-        (sum_ext R n _ _ (λ a l. else_term (λ G. G j) a (λ e. omega arith)))
+        (but_ext R n x _ _ (λ a l k. ap (λ G. G j) (else_box a k (λ e. omega arith))))
 
     second_differs : b ≡ suc n → lost_image c x g j ≡ lost_image c x g' j → R.zero ≡ R.one
     second_differs h =
         more_differs R (g (seat x (suc n)) j) (taken_image c x n g j) (g' (seat x (suc n)) j) (taken_image c x n g' j) (own_half (suc n) h)
-        (sum_ext R n _ _ (λ a l. else_term (λ G. half_image c x a G j) a (λ e. omega arith)))
+        (but_ext R n x _ _ (λ a l k. ap (λ G. half_image c x a G j) (else_box a k (λ e. omega arith))))
 
     differs : b < suc (suc n) → lost_half c x g j ≡ lost_half c x g' j → lost_image c x g j ≡ lost_image c x g' j → R.zero ≡ R.one
     differs l e e' =
@@ -140,21 +133,16 @@ module _ {A : Type 0} (c : Code A) (x : ℕ) (hx : x < data_boxes c) where
     module _ (d : A) (inverse : R.times d (◌∸◌ R (eigen_q c x) (eigen_p c x)) ≡ R.one) where
       -- the two rows of a pair
       abbrev row : Bool → ℕ → ℕ
-      row false j = lower k j
-      row true j = lower k j + 2 ^ k
+      row b j = partner k b (lower k j)
 
       row_below : (b : Bool) (j : ℕ) → j < 2 ^ (m - 1) → row b j < 2 ^ m
-      row_below false j l = lower_below m k j (shift_below c ok x) l
-      row_below true j l = upper_below m k j (shift_below c ok x) l
+      row_below b j l = let h : k < m = shift_below c x ok.some in partner_lt m k b (lower k j) h (lower_below m k j h l)
 
       -- a lost column is the recovered one, pair by pair
       pair_recovered : (f g : ℕ → ℕ → A) → HasHalves c x f g → (j : ℕ) → j < 2 ^ (m - 1) → (b : Bool) → f x (row b j) ≡ recovered c x d g j b
       pair_recovered f g has j l b =
-          recovered_given c ok x hx d inverse g (λ a. recovered c x d g (pair_of k a) (odd (digit k a))) (λ a l. refl) f has (row b j) (row_below b j l) ∙ at b
-        where
-          at : (b : Bool) → recovered c x d g (pair_of k (row b j)) (odd (digit k (row b j))) ≡ recovered c x d g j b
-          at false = ap₂ (recovered c x d g) (pair_lower k j) (digit_lower k j)
-          at true = ap₂ (recovered c x d g) (pair_upper k j) (digit_upper k j)
+          recovered_given c ok x hx d inverse g (λ a. recovered c x d g (pair_of k a) (odd (digit k a))) (λ a l. refl) f has (row b j) (row_below b j l)
+          ∙ ap₂ (recovered c x d g) (pair_partner k b (lower k j) ∙ pair_lower k j) (bit_to_c k b (lower k j))
 
       -- so files with the same lost column have the same recovered pairs
       pairs_alike : (f g f' g' : ℕ → ℕ → A) → HasHalves c x f g → HasHalves c x f' g' → Alike c (f x) (f' x) → (j : ℕ) → j < 2 ^ (m - 1) → (b : Bool)

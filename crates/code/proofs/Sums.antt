@@ -25,12 +25,15 @@ module _ {A : Type 0} (R : Ring A) where
   sum_ext zero f g h = refl
   sum_ext (suc n) f g h = ap₂ ◌+◌ (sum_ext n f g (λ b l. h b (omega arith))) (h n (omega arith))
 
-  pub but_ext : (n x : ℕ) (f g : ℕ → A) → ((b : ℕ) → b < n → b ≢ x → f b ≡ g b) → but n x f ≡ but n x g
-  but_ext n x f g h = sum_ext n _ _ λ b l.
+  pub left_out : (b x : ℕ) (v w : A) → (b ≢ x → v ≡ w) → (if b == x then nil else v) ≡ (if b == x then nil else w)
+  left_out b x v w e =
       elim (cases_eq b x) [
-        | inl e ↦ if_same b x e nil (f b) ∙ sym (if_same b x e nil (g b))
-        | inr k ↦ ap (λ v. if b == x then nil else v) (h b l k)
+        | inl h ↦ if_same b x h nil v ∙ sym (if_same b x h nil w)
+        | inr n ↦ ap (λ y. if b == x then nil else y) (e n)
       ]
+
+  pub but_ext : (n x : ℕ) (f g : ℕ → A) → ((b : ℕ) → b < n → b ≢ x → f b ≡ g b) → but n x f ≡ but n x g
+  but_ext n x f g h = sum_ext n _ _ (λ b l. left_out b x (f b) (g b) (h b l))
 
   pub sum_but : (n x : ℕ) (f : ℕ → A) → x < n → sum R n f ≡ f x + but n x f
   sum_but zero x f l = absurd (omega arith)

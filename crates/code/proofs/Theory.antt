@@ -14,7 +14,7 @@ use Rattle.code.proofs.Digits.{rows}
 use Rattle.code.proofs.Pairing.{lower_partner, pair_lower, lower_pair, pair_partner, row_of_pair, pair_below, lower_below}
 use Rattle.code.proofs.Images.{image_same}
 use Rattle.code.proofs.Cuts.{cut, cut_in, cut_same, cut_after, cut_halved, cut_sum}
-use Rattle.code.proofs.Sums.{if_same, if_other, sum_ext, sum_more}
+use Rattle.code.proofs.Sums.{if_same, if_other, but_ext, sum_more}
 use Rattle.code.proofs.Seats.{seat_most, seat_helper, helper_seat, helper_apart, helper_most}
 use Rattle.code.proofs.Halves as halves
 use Rattle.code.proofs.Files as files
@@ -24,6 +24,9 @@ number_of zero h = refl
 number_of (suc zero) h = refl
 number_of (suc (suc zero)) h = refl
 number_of (suc (suc (suc n))) h = absurd (omega arith)
+
+pub shift_below : {A : Type 0} (c : Code A) (b : ℕ) → 1 ≤ c.size → shift c b < c.size
+shift_below c b h = omega arith
 
 module _ {A : Type 0} (c : Code A) (ok : Proper c) where
   abbrev R : Ring A
@@ -46,19 +49,13 @@ module _ {A : Type 0} (c : Code A) (ok : Proper c) where
       let er : a % m ≡ b % m = omega arith in
       h (sym (div-add-mod a m) ∙ ap₂ (λ x y. m * x + y) es er ∙ div-add-mod b m)
 
-  pub direction_most : (b : ℕ) → direction c b ≤ m
-  direction_most b = let s : 1 ≤ m = ok.some in omega arith
-
-  pub shift_below : (b : ℕ) → shift c b < m
-  shift_below b = let s : 1 ≤ m = ok.some in omega arith
-
   same_if : (a b : A) → ◌∸◌ R a b ≡ R.zero → a ≡ b
   same_if a b = ring_by R (a ∷ b ∷ []) (λ a b. a ≐ b ⟸ (i · a ⊖ b ≐ o) ∷ []) refl
 
   -- the two eigenvalues of a direction differ
   pub gap : (x : ℕ) → ◌∸◌ R (eigen_q c x) (eigen_p c x) ≡ R.zero → ⊥
   gap x e =
-      let s : direction c x ≤ m = direction_most x in
+      let s : 1 ≤ m = ok.some in
       let w : 2 * direction c x ≡ 2 * direction c x - 1 = ok.mark_distinct (2 * direction c x) (2 * direction c x - 1) (omega arith) (omega arith) (omega arith) (omega arith) (same_if (eigen_q c x) (eigen_p c x) e) in
       omega arith
 
@@ -74,7 +71,7 @@ module _ {A : Type 0} (c : Code A) (ok : Proper c) where
 
   trim2 : (f : ℕ → ℕ → A) → (λ a. sum R n (λ b. T b (trim (f b)) a)) ≡ trim (parity2 c f)
   trim2 f =
-      ap {B = ℕ → A} (λ (X : ℕ → ℕ → A) a. sum R n (λ b. X b a)) (fun_ext λ b. cut_after R m (kind c b) (shift c b) (shift_below b) (eigen_p c b) (eigen_q c b) (f b))
+      ap {B = ℕ → A} (λ (X : ℕ → ℕ → A) a. sum R n (λ b. X b a)) (fun_ext λ b. cut_after R m (kind c b) (shift c b) (shift_below c b ok.some) (eigen_p c b) (eigen_q c b) (f b))
       ∙ cut_sum R m n (λ b. T b (f b))
 
   abbrev HalfAlike : (ℕ → A) → (ℕ → A) → Type 0
@@ -99,8 +96,8 @@ module _ {A : Type 0} (c : Code A) (ok : Proper c) where
 
     widen : (C G : ℕ → A) → HalfAlike (half_for c x C) G → H (trim C) ≡ trim (wide G)
     widen C G h =
-        cut_halved R m (kind c x) k (shift_below x) C
-        ∙ cut_same R m (H C) (wide G) (λ a l. ap (join C) (sym (lower_pair k a)) ∙ h (pair_of k a) (pair_below m k a (shift_below x) l))
+        cut_halved R m (kind c x) k (shift_below c x ok.some) C
+        ∙ cut_same R m (H C) (wide G) (λ a l. ap (join C) (sym (lower_pair k a)) ∙ h (pair_of k a) (pair_below m k a (shift_below c x ok.some) l))
 
     narrow : (C G : ℕ → A) → H C ≡ wide G → HalfAlike (half_for c x C) G
     narrow C G e j l = ap (join C) (sym (lower_partner k j)) ∙ ap (λ X. X (lower k j)) e ∙ ap G (pair_lower k j)
@@ -195,16 +192,13 @@ module _ {A : Type 0} (c : Code A) (ok : Proper c) where
         files.known_at R rows boxes lost b (wide G) (lower k j)
         ∙ ap (λ v. if shift c b == k then R.times (eigenvalue R (kind c x) (kind c b) (eigen_p c b) (eigen_q c b)) (G v) else image c b (wide G) (lower k j)) (pair_lower k j)
 
-    left_out : (b : ℕ) (v w : A) → v ≡ w → (if b == x then R.zero else v) ≡ (if b == x then R.zero else w)
-    left_out b v w e = ap (λ v. if b == x then R.zero else v) e
-
     known_recovered : (g : ℕ → ℕ → A) (b : Bool) (j : ℕ) → known g (partner k b (lower k j)) ≡ recovered c x d g j b
     known_recovered g b j =
         files.given_at R rows boxes lost (wides g) (wides g n) (wides g (suc n))
         (λ b. flat (g (seat x b))) (flat (g (seat x n))) (flat (g (seat x (suc n)))) b (lower k j)
         ∙ ap₂ (λ y z. recover R (kind c x) (eigen_p c x) (eigen_q c x) d y z b)
-        (ap₂ (◌∸◌ R) (ap (g (seat x n)) (pair_lower k j)) (sum_ext R n _ _ (λ b l. left_out b _ _ (ap (g (seat x b)) (pair_lower k j)))))
-        (ap₂ (◌∸◌ R) (ap (g (seat x (suc n))) (pair_lower k j)) (sum_ext R n _ _ (λ b l. left_out b _ _ (image_half b (g (seat x b)) j))))
+        (ap₂ (◌∸◌ R) (ap (g (seat x n)) (pair_lower k j)) (but_ext R n x _ _ (λ b l a. ap (g (seat x b)) (pair_lower k j))))
+        (ap₂ (◌∸◌ R) (ap (g (seat x (suc n))) (pair_lower k j)) (but_ext R n x _ _ (λ b l a. image_half b (g (seat x b)) j)))
 
     -- so a column that is recovered pair by pair is the column given by the halves
     pub recovered_given : (g : ℕ → ℕ → A) (C : ℕ → A) → ((a : ℕ) → a < 2 ^ m → C a ≡ recovered c x d g (pair_of k a) (odd (digit k a))) → Given c x g C

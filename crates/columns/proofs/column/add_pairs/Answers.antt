@@ -4,7 +4,8 @@ use Rattle.code.specs.Contents.{at}
 use Rattle.code.specs.Rows.{pair_of}
 use Rattle.code.proofs.Images.{image_at_low, image_at_high}
 use Rattle.code.proofs.Pairing.{pair_lower, pair_upper}
-use Rattle.boxes.proofs.Weights.{rows_named, shift_less}
+use Rattle.code.proofs.Theory.{shift_below}
+use Rattle.boxes.proofs.Weights.{rows_named}
 use Rattle.columns.proofs.Slices.{pairwise_more, pairwise_all, read, written_else}
 use Rattle.columns.proofs.column.add_pairs.Goals as goal
 
@@ -44,4 +45,4 @@ returns g c =
     let m = c.args.cabinet.now.size.m in
     let k = shift (full g.F.Sums.symbols m) c.args.b in
     let inv = c.loop-low.invariant in
-    pairwise_all g.F.Sums.symbols g.F.Sums.value m k _ _ _ _ _ inv.0 c.in-None.ensures.steps.1.0 (shift_less m c.args.b c.args.cabinet.now.size.some) (omega arith) inv.2
+    pairwise_all g.F.Sums.symbols g.F.Sums.value m k _ _ _ _ _ inv.0 c.in-None.ensures.steps.1.0 (shift_below (full g.F.Sums.symbols m) c.args.b c.args.cabinet.now.size.some) (omega arith) inv.2

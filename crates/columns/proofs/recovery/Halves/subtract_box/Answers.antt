@@ -4,8 +4,7 @@ use Rattle.code.specs.Codes.{full}
 use Rattle.code.specs.Contents.{at, parts}
 use Rattle.code.specs.Recovery.{seat}
 use Rattle.code.proofs.Sums.{if_same, if_other}
-use Rattle.code.proofs.Theory.{half_image_same, less_none}
-use Rattle.boxes.proofs.Weights.{shift_less}
+use Rattle.code.proofs.Theory.{shift_below, half_image_same, less_none}
 use Rattle.columns.proofs.Slices.{read}
 use Rattle.columns.proofs.recovery.Halves.subtract_box.Goals as goal
 
@@ -27,7 +26,7 @@ returns g c =
     let sent = parts Y v (2 ^ (m - 1)) c.args.self.now.numbers.now (seat x b) in
     let half = c.half-half.ensures in
     let number = read Y v c.half-half.result.now c.args.j _ (omega (arith, half.pairs, c.requires.pair)) c.index-half-j.is ∙ half.numbers c.args.j c.requires.pair in
-    let image = c.half_of_image-image.ensures ∙ half_image_same (full Y m) x b (at Y v c.half-half.result.now) sent (shift_less m x size.some) (shift_less m b size.some) half.numbers c.args.j c.requires.pair in
+    let image = c.half_of_image-image.ensures ∙ half_image_same (full Y m) x b (at Y v c.half-half.result.now) sent (shift_below (full Y m) x size.some) (shift_below (full Y m) b size.some) half.numbers c.args.j c.requires.pair in
     record {
       first = c.sum.ensures ∙ ap (Y.ring.plus (v c.args.left.0)) (c.negative.ensures ∙ ap Y.ring.negative (number ∙ sym (if_other b x c.if-b-self.false Y.ring.zero _)));
       second = c.sum-2.ensures ∙ ap (Y.ring.plus (v c.args.left.1)) (c.negative-2.ensures ∙ ap Y.ring.negative (image ∙ sym (if_other b x c.if-b-self.false Y.ring.zero _)));

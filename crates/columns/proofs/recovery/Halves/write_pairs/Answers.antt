@@ -4,8 +4,9 @@ use Rattle.code.specs.Contents.{parts}
 use Rattle.code.specs.Recovery.{lost_half, lost_image, recover, recovered}
 use Rattle.code.specs.Rows.{odd, digit, pair_of}
 use Rattle.code.proofs.Pairing.{pair_lower, pair_upper, digit_lower, digit_upper}
+use Rattle.code.proofs.Theory.{shift_below}
 use Rattle.columns.proofs.Slices.{pairwise_more, pairwise_all}
-use Rattle.boxes.proofs.Weights.{rows_named, shift_less}
+use Rattle.boxes.proofs.Weights.{rows_named}
 use Rattle.columns.proofs.recovery.Halves.write_pairs.Goals as goal
 
 pub loop-j-preserved : goal.loop-j-preserved
@@ -48,4 +49,4 @@ returns g c =
     let m = c.args.self.now.cabinet.size.m in
     let k = shift (full g.F.Sums.symbols m) c.args.self.now.lost in
     let inv = c.loop-j.invariant in
-    pairwise_all g.F.Sums.symbols g.F.Sums.value m k _ _ _ _ _ inv.0 c.in-None.ensures.steps.0.1.0 (shift_less m c.args.self.now.lost c.args.self.now.cabinet.size.some) (omega arith) inv.3
+    pairwise_all g.F.Sums.symbols g.F.Sums.value m k _ _ _ _ _ inv.0 c.in-None.ensures.steps.0.1.0 (shift_below (full g.F.Sums.symbols m) c.args.self.now.lost c.args.self.now.cabinet.size.some) (omega arith) inv.3
