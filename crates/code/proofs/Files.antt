@@ -60,11 +60,11 @@ module _ {A Row : Type 0} (R : Ring A) (D : Digits Row) where
     abbrev pub parity2 : (ℕ → Row → A) → Row → A
     parity2 f = total n (λ b. blocks b (f b))
 
-    -- the file has these halves, for the lost box x
-    pub record Halves (x : ℕ) (f g : ℕ → Row → A) (g1 g2 : Row → A) : Type 0 where
+    -- the file has these halves, for the lost box x; those of the two parities stand after those of the n boxes
+    pub record Halves (x : ℕ) (f g : ℕ → Row → A) : Type 0 where
       pub each : (b : ℕ) → b < n → b ≢ x → halved R D (kind x) (place x) (f b) ≡ g b
-      pub first : halved R D (kind x) (place x) (parity1 f) ≡ g1
-      pub second : halved R D (kind x) (place x) (parity2 f) ≡ g2
+      pub first : halved R D (kind x) (place x) (parity1 f) ≡ g n
+      pub second : halved R D (kind x) (place x) (parity2 f) ≡ g (suc n)
 
     module _ (L : Lost R B) where
       open L use {x, inside, d, inverse}
@@ -97,34 +97,35 @@ module _ {A Row : Type 0} (R : Ring A) (D : Digits Row) where
           ]
 
       -- the halves of the lost column and of what its blocks make of it
-      need1 : (ℕ → Row → A) → (Row → A) → Row → A
-      need1 g g1 a = g1 a + neg (but R n x (λ b. g b a))
+      need1 : (ℕ → Row → A) → Row → A
+      need1 g a = g n a + neg (but R n x (λ b. g b a))
 
-      need2 : (ℕ → Row → A) → (Row → A) → Row → A
-      need2 g g2 a = g2 a + neg (but R n x (λ b. known b (g b) a))
+      need2 : (ℕ → Row → A) → Row → A
+      need2 g a = g (suc n) a + neg (but R n x (λ b. known b (g b) a))
 
-      -- the column given by a set of halves
-      pub given : (ℕ → Row → A) → (Row → A) → (Row → A) → Row → A
-      given g g1 g2 = restore R D (kind x) (place x) (p x) (q x) d (need1 g g1) (need2 g g2)
+      -- a column of box x from two halves, and the column given by a set of halves
+      abbrev back : (Row → A) → (Row → A) → Row → A
+      back = restore R D (kind x) (place x) (p x) (q x) d
 
-      part1 : (f g : ℕ → Row → A) (g1 g2 : Row → A) → Halves x f g g1 g2 → H (f x) ≡ need1 g g1
+      pub given : (ℕ → Row → A) → Row → A
+      given g = back (need1 g) (need2 g)
+
+      part1 : (f g : ℕ → Row → A) → Halves x f g → H (f x) ≡ need1 g
       unfolding need1
-      part1 f g g1 g2 h = fun_ext λ a.
-          term_left R n x (λ b. H (f b) a) (λ b. g b a) (g1 a) inside (λ b l k. ap (λ X. X a) (h.each b l k))
+      part1 f g h = fun_ext λ a.
+          term_left R n x (λ b. H (f b) a) (λ b. g b a) (g n a) inside (λ b l k. ap (λ X. X a) (h.each b l k))
           (ap (λ X. X a) (sym (halved_total (kind x) (place x) n f) ∙ h.first))
 
-      part2 : (f g : ℕ → Row → A) (g1 g2 : Row → A) → Halves x f g g1 g2 → H (blocks x (f x)) ≡ need2 g g2
+      part2 : (f g : ℕ → Row → A) → Halves x f g → H (blocks x (f x)) ≡ need2 g
       unfolding need2
-      part2 f g g1 g2 h = fun_ext λ a.
-          term_left R n x (λ b. H (blocks b (f b)) a) (λ b. known b (g b) a) (g2 a) inside (λ b l k. ap (λ X. X a) (known_is b l k (f b) ∙ ap (known b) (h.each b l k)))
+      part2 f g h = fun_ext λ a.
+          term_left R n x (λ b. H (blocks b (f b)) a) (λ b. known b (g b) a) (g (suc n) a) inside (λ b l k. ap (λ X. X a) (known_is b l k (f b) ∙ ap (known b) (h.each b l k)))
           (ap (λ X. X a) (sym (halved_total (kind x) (place x) n (λ b. blocks b (f b))) ∙ h.second))
 
       -- every file that has the halves has the given column
-      pub agree : (f g : ℕ → Row → A) (g1 g2 : Row → A) → Halves x f g g1 g2 → f x ≡ given g g1 g2
+      pub agree : (f g : ℕ → Row → A) → Halves x f g → f x ≡ given g
       unfolding given
-      agree f g g1 g2 h =
-          sym (restored R D (kind x) (place x) (p x) (q x) d inverse (f x))
-          ∙ ap₂ (restore R D (kind x) (place x) (p x) (q x) d) (part1 f g g1 g2 h) (part2 f g g1 g2 h)
+      agree f g h = sym (restored R D (kind x) (place x) (p x) (q x) d inverse (f x)) ∙ ap₂ back (part1 f g h) (part2 f g h)
 
       -- and such a file there is, whatever the halves
       op_flat : (k l : ℕ) → l ≢ k → (M : Mat A) (G : Row → A) → Flat R D k G → Flat R D k (Op R D l M G)
@@ -139,49 +140,50 @@ module _ {A Row : Type 0} (R : Ring A) (D : Digits Row) where
             | inr h ↦ subst (Flat R D (place x)) (sym (known_else b h G ∙ after_op R D (kind b) (place b) (p b) (q b) G)) (op_flat (place x) (place b) h (mat R (kind b) (p b) (q b)) G g)
           ]
 
-      flat1 : (g : ℕ → Row → A) (g1 : Row → A) → ((b : ℕ) → Flat R D (place x) (g b)) → Flat R D (place x) g1 → Flat R D (place x) (need1 g g1)
-      unfolding need1
-      flat1 g g1 h h1 c a = ap₂ (λ y z. y + neg z) (h1 c a) (but_ext R n x _ _ (λ b l k. h b c a))
+      abbrev pub AllFlat : (ℕ → Row → A) → Type 0
+      AllFlat g = (b : ℕ) → Flat R D (place x) (g b)
 
-      flat2 : (g : ℕ → Row → A) (g2 : Row → A) → ((b : ℕ) → Flat R D (place x) (g b)) → Flat R D (place x) g2 → Flat R D (place x) (need2 g g2)
+      flat1 : (g : ℕ → Row → A) → AllFlat g → Flat R D (place x) (need1 g)
+      unfolding need1
+      flat1 g h c a = ap₂ (λ y z. y + neg z) (h n c a) (but_ext R n x _ _ (λ b l k. h b c a))
+
+      flat2 : (g : ℕ → Row → A) → AllFlat g → Flat R D (place x) (need2 g)
       unfolding need2
-      flat2 g g2 h h2 c a = ap₂ (λ y z. y + neg z) (h2 c a) (but_ext R n x _ _ (λ b l k. known_flat b (g b) (h b) c a))
+      flat2 g h c a = ap₂ (λ y z. y + neg z) (h (suc n) c a) (but_ext R n x _ _ (λ b l k. known_flat b (g b) (h b) c a))
 
       none : Row → A
       none a = nil
 
-      made : (ℕ → Row → A) → (Row → A) → (Row → A) → ℕ → Row → A
-      made g g1 g2 b = if b == x then given g g1 g2 else restore R D (kind x) (place x) (p x) (q x) d (g b) none
+      made : (ℕ → Row → A) → ℕ → Row → A
+      made g b = if b == x then given g else back (g b) none
 
-      made_each : (g : ℕ → Row → A) (g1 g2 : Row → A) → ((b : ℕ) → Flat R D (place x) (g b)) → (b : ℕ) → b ≢ x → H (made g g1 g2 b) ≡ g b
+      made_each : (g : ℕ → Row → A) → AllFlat g → (b : ℕ) → b ≢ x → H (made g b) ≡ g b
       unfolding made none
-      made_each g g1 g2 h b k =
-          ap H (if_other b x k _ _) ∙ restore_half R D (kind x) (place x) (p x) (q x) d inverse (g b) none (h b) (λ c a. refl)
+      made_each g h b k = ap H (if_other b x k _ _) ∙ restore_half R D (kind x) (place x) (p x) (q x) d inverse (g b) none (h b) (λ c a. refl)
 
-      made_at : (g : ℕ → Row → A) (g1 g2 : Row → A) → made g g1 g2 x ≡ given g g1 g2
+      made_at : (g : ℕ → Row → A) → made g x ≡ given g
       unfolding made
-      made_at g g1 g2 = if_same x x refl _ _
+      made_at g = if_same x x refl _ _
 
-      pub exist : (g : ℕ → Row → A) (g1 g2 : Row → A) → ((b : ℕ) → Flat R D (place x) (g b)) → Flat R D (place x) g1 → Flat R D (place x) g2
-          → (f : ℕ → Row → A) × Halves x f g g1 g2
+      pub exist : (g : ℕ → Row → A) → AllFlat g → (f : ℕ → Row → A) × Halves x f g
       unfolding given need1 need2
-      exist g g1 g2 h h1 h2 =
-          let f = made g g1 g2 in (
+      exist g h =
+          let f = made g in (
             f,
             record {
-              each = λ b l k. made_each g g1 g2 h b k;
+              each = λ b l k. made_each g h b k;
               first = halved_total (kind x) (place x) n f ∙ fun_ext λ a.
-                  sum_again R n x (λ b. H (f b) a) (λ b. g b a) (g1 a) inside (λ b l k. ap (λ X. X a) (made_each g g1 g2 h b k))
-                  (ap (λ X. H X a) (made_at g g1 g2) ∙ ap (λ X. X a) (restore_half R D (kind x) (place x) (p x) (q x) d inverse (need1 g g1) (need2 g g2) (flat1 g g1 h h1) (flat2 g g2 h h2)));
+                  sum_again R n x (λ b. H (f b) a) (λ b. g b a) (g n a) inside (λ b l k. ap (λ X. X a) (made_each g h b k))
+                  (ap (λ X. X a) (ap H (made_at g) ∙ restore_half R D (kind x) (place x) (p x) (q x) d inverse (need1 g) (need2 g) (flat1 g h) (flat2 g h)));
               second = halved_total (kind x) (place x) n (λ b. blocks b (f b)) ∙ fun_ext λ a.
-                  sum_again R n x (λ b. H (blocks b (f b)) a) (λ b. known b (g b) a) (g2 a) inside (λ b l k. ap (λ X. X a) (known_is b l k (f b) ∙ ap (known b) (made_each g g1 g2 h b k)))
-                  (ap (λ X. H (blocks x X) a) (made_at g g1 g2) ∙ ap (λ X. X a) (restore_block R D (kind x) (place x) (p x) (q x) d inverse (need1 g g1) (need2 g g2) (flat1 g g1 h h1) (flat2 g g2 h h2)));
+                  sum_again R n x (λ b. H (blocks b (f b)) a) (λ b. known b (g b) a) (g (suc n) a) inside (λ b l k. ap (λ X. X a) (known_is b l k (f b) ∙ ap (known b) (made_each g h b k)))
+                  (ap (λ X. X a) (ap (λ X. H (blocks x X)) (made_at g) ∙ restore_block R D (kind x) (place x) (p x) (q x) d inverse (need1 g) (need2 g) (flat1 g h) (flat2 g h)));
             },
           )
 
       -- the given column at a row, as the layers above read it
-      pub given_at : (g : ℕ → Row → A) (g1 g2 : Row → A) → ((b : ℕ) → Flat R D (place x) (g b)) → Flat R D (place x) g1 → Flat R D (place x) g2 → (b : Bool) (a : Row)
-          → given g g1 g2 (to (place x) b a)
-          ≡ recover R (kind x) (p x) (q x) d (g1 a + neg (but R n x (λ b. g b a))) (g2 a + neg (but R n x (λ b. known b (g b) a))) b
+      pub given_at : (g : ℕ → Row → A) → AllFlat g → (b : Bool) (a : Row)
+          → given g (to (place x) b a)
+          ≡ recover R (kind x) (p x) (q x) d (g n a + neg (but R n x (λ b. g b a))) (g (suc n) a + neg (but R n x (λ b. known b (g b) a))) b
       unfolding given need1 need2
-      given_at g g1 g2 h h1 h2 b a = restore_at R D (kind x) (place x) (p x) (q x) d (need1 g g1) (need2 g g2) (flat1 g g1 h h1) (flat2 g g2 h h2) b a
+      given_at g h b a = restore_at R D (kind x) (place x) (p x) (q x) d (need1 g) (need2 g) (flat1 g h) (flat2 g h) b a

@@ -108,7 +108,7 @@ module _ {A : Type 0} (c : Code A) (ok : Proper c) where
     abbrev lost : files.Lost R boxes
     lost = record { x = x; inside = hx; d = d; inverse = inverse }
 
-    abbrev Theory : (f g : ℕ → ℕ → A) (g1 g2 : ℕ → A) → Type 0
+    abbrev Theory : (f g : ℕ → ℕ → A) → Type 0
     Theory = files.Halves R rows boxes x
 
     -- which column is whose
@@ -127,14 +127,14 @@ module _ {A : Type 0} (c : Code A) (ok : Proper c) where
         ap (λ X. half_for c x X j) (sym is) ∙ ap (λ y. half_for c x (column c f y) j) (sym (helper_seat c x b e))
         ∙ h (seat x b) (seat_most x b (suc n) (omega arith) e l) j lj
 
-    to_theory : (f g : ℕ → ℕ → A) → HasHalves c x f g → Theory (λ b. trim (f b)) (λ b. trim (wides g b)) (trim (wides g n)) (trim (wides g (suc n)))
+    to_theory : (f g : ℕ → ℕ → A) → HasHalves c x f g → Theory (λ b. trim (f b)) (λ b. trim (wides g b))
     to_theory f g h = record {
       each = λ b l e. by_box f g h b (f b) (column_data f b l) e (omega arith);
       first = ap H (trim1 f) ∙ by_box f g h n (parity1 c f) (column_first f n refl) (λ e. omega arith) (omega arith);
       second = ap H (trim2 f) ∙ by_box f g h (suc n) (parity2 c f) (column_second f (suc n) refl) (λ e. omega arith) (omega arith);
     }
 
-    from_theory : (f g : ℕ → ℕ → A) → Theory f (wides g) (wides g n) (wides g (suc n)) → HasHalves c x f g
+    from_theory : (f g : ℕ → ℕ → A) → Theory f (wides g) → HasHalves c x f g
     from_theory f g t h l =
         subst (λ y. HalfAlike (half_for c x (column c f (helper c x h))) (g y)) (seat_helper c x h) (at (helper c x h) (helper_apart c x h) (helper_most c x h (suc n) l))
       where
@@ -154,12 +154,11 @@ module _ {A : Type 0} (c : Code A) (ok : Proper c) where
 
     -- the column that the theory gives from the halves g
     abbrev known : (ℕ → ℕ → A) → ℕ → A
-    known g =
-        files.given R rows boxes lost (wides g) (wides g n) (wides g (suc n))
+    known g = files.given R rows boxes lost (wides g)
 
     trimmed : (f g : ℕ → ℕ → A) → HasHalves c x f g
-        → trim (f x) ≡ files.given R rows boxes lost (λ b. trim (wides g b)) (trim (wides g n)) (trim (wides g (suc n)))
-    trimmed f g h = files.agree R rows boxes lost _ _ _ _ (to_theory f g h)
+        → trim (f x) ≡ files.given R rows boxes lost (λ b. trim (wides g b))
+    trimmed f g h = files.agree R rows boxes lost _ _ (to_theory f g h)
 
     below : (C E : ℕ → A) → trim C ≡ trim E → Alike c C E
     below C E e a l = sym (cut_in R m C a l) ∙ ap (λ X. X a) e ∙ cut_in R m E a l
@@ -168,11 +167,8 @@ module _ {A : Type 0} (c : Code A) (ok : Proper c) where
     agree g f f' h h' = below (f x) (f' x) (trimmed f g h ∙ sym (trimmed f' g h'))
 
     -- a file that has the halves, and whose lost column is the known one
-    found : (g : ℕ → ℕ → A)
-        → (f : ℕ → ℕ → A) × Theory f (wides g) (wides g n) (wides g (suc n))
-    found g =
-        files.exist R rows boxes lost (wides g) (wides g n) (wides g (suc n))
-        (λ b. flat (g (seat x b))) (flat (g (seat x n))) (flat (g (seat x (suc n))))
+    found : (g : ℕ → ℕ → A) → (f : ℕ → ℕ → A) × Theory f (wides g)
+    found g = files.exist R rows boxes lost (wides g) (λ b. flat (g (seat x b)))
 
     exists : (g : ℕ → ℕ → A) → (f : ℕ → ℕ → A) × HasHalves c x f g
     exists g = ((found g).0, from_theory (found g).0 g (found g).1)
@@ -184,7 +180,7 @@ module _ {A : Type 0} (c : Code A) (ok : Proper c) where
     unfolding exists
     known_given g f h a l =
         agree g f (found g).0 h (exists g).1 a l
-        ∙ ap (λ X. X a) (files.agree R rows boxes lost _ _ _ _ (found g).1)
+        ∙ ap (λ X. X a) (files.agree R rows boxes lost _ _ (found g).1)
 
     -- the known column is the recovered one
     image_half : (b : ℕ) (G : ℕ → A) (j : ℕ) → files.known R rows boxes lost b (wide G) (lower k j) ≡ half_image c x b G j
@@ -194,8 +190,7 @@ module _ {A : Type 0} (c : Code A) (ok : Proper c) where
 
     known_recovered : (g : ℕ → ℕ → A) (b : Bool) (j : ℕ) → known g (partner k b (lower k j)) ≡ recovered c x d g j b
     known_recovered g b j =
-        files.given_at R rows boxes lost (wides g) (wides g n) (wides g (suc n))
-        (λ b. flat (g (seat x b))) (flat (g (seat x n))) (flat (g (seat x (suc n)))) b (lower k j)
+        files.given_at R rows boxes lost (wides g) (λ b. flat (g (seat x b))) b (lower k j)
         ∙ ap₂ (λ y z. recover R (kind c x) (eigen_p c x) (eigen_q c x) d y z b)
         (ap₂ (◌∸◌ R) (ap (g (seat x n)) (pair_lower k j)) (but_ext R n x _ _ (λ b l a. ap (g (seat x b)) (pair_lower k j))))
         (ap₂ (◌∸◌ R) (ap (g (seat x (suc n))) (pair_lower k j)) (but_ext R n x _ _ (λ b l a. image_half b (g (seat x b)) j)))
