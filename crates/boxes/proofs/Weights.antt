@@ -24,7 +24,7 @@ rows_of_pair m k j w hm hk below is positive =
       is_low = low;
       is_high = ap₂ ◌+◌ low is;
       rising = omega arith;
-      bound = let top : lower k j + 2 ^ k < 2 ^ m = upper_below m k j hk below in omega arith;
+      bound = omega (arith, upper_below m k j hk below);
     }
 
 -- the rows of a pair, by the size and the digit that the code names

@@ -56,8 +56,9 @@ module _ {A Row : Type 0} (R : Ring A) (D : Digits Row) where
 
   pub op_comm : (k l : ℕ) → k ≢ l → (M N : Mat A) (C : Row → A) → Op k M (Op l N C) ≡ Op l N (Op k M C)
   op_comm k l h M N C = fun_ext λ a.
-      ap₂ (mix R M (bit k a)) (op_at_else l k (λ e. h (sym e)) N C false a) (op_at_else l k (λ e. h (sym e)) N C true a)
-      ∙ rw (D.to_else l k (λ e. h (sym e)) false false a, D.to_else l k (λ e. h (sym e)) false true a, D.to_else l k (λ e. h (sym e)) true false a, D.to_else l k (λ e. h (sym e)) true true a)
+      let n : l ≢ k = λ e. h (sym e) in
+      ap₂ (mix R M (bit k a)) (op_at_else l k n N C false a) (op_at_else l k n N C true a)
+      ∙ rw (D.to_else l k n false false a, D.to_else l k n false true a, D.to_else l k n true false a, D.to_else l k n true true a)
       (ring R (M (bit k a) false ∷ M (bit k a) true ∷ N (bit l a) false ∷ N (bit l a) true
       ∷ C (to k false (to l false a)) ∷ C (to k false (to l true a)) ∷ C (to k true (to l false a)) ∷ C (to k true (to l true a)) ∷ [])
       (λ m n p q c d e f. m ⊗ (p ⊗ c ⊕ q ⊗ d) ⊕ n ⊗ (p ⊗ e ⊕ q ⊗ f) ≐ p ⊗ (m ⊗ c ⊕ n ⊗ e) ⊕ q ⊗ (m ⊗ d ⊕ n ⊗ f)) refl)
