@@ -29,11 +29,11 @@ lower_pair k a =
     ∙ omega (arith, doubled (a / 2 ^ suc k) k, ap (λ n. n * 2 * 2 ^ k) (shr-shr a k 1 ∙ ap (λ n. a / 2 ^ n) (add-one k)))
     ∙ sym (partner_is k false a)
 
-lower_of_lower : (k a : ℕ) → pair_of k (partner k false a) ≡ pair_of k a
-lower_of_lower k a = ap (pair_of k) (sym (lower_pair k a)) ∙ pair_lower k (pair_of k a)
+pair_cleared : (k a : ℕ) → pair_of k (partner k false a) ≡ pair_of k a
+pair_cleared k a = ap (pair_of k) (sym (lower_pair k a)) ∙ pair_lower k (pair_of k a)
 
 pub pair_partner : (k : ℕ) (b : Bool) (a : ℕ) → pair_of k (partner k b a) ≡ pair_of k a
-pair_partner k b a = sym (lower_of_lower k (partner k b a)) ∙ ap (pair_of k) (to_to_c k false b a) ∙ lower_of_lower k a
+pair_partner k b a = sym (pair_cleared k (partner k b a)) ∙ ap (pair_of k) (to_to_c k false b a) ∙ pair_cleared k a
 
 pub lower_partner : (k j : ℕ) → partner k false (lower k j) ≡ lower k j
 lower_partner k j = sym (lower_pair k (lower k j)) ∙ ap (lower k) (pair_lower k j)
