@@ -1,5 +1,5 @@
 -- What a slice's symbols stand for, as loops read and write them. Assumes nothing.
-use Rattle.std.proofs.Common.{◌≡◌, ℕ, ◌+◌, ◌-◌, ◌*◌, ◌^◌, ◌<◌, ◌≤◌, ◌≢◌, List, ◌++◌, map, add-mul, one-mul, length, slice_index_or, take, drop, slice_set, sym, ap, ◌∙◌, subst, inl, inr, arith, length-set, get_or-set_other, get_or-set_same}
+use Rattle.std.proofs.Common.{◌≡◌, ℕ, ◌+◌, ◌-◌, ◌*◌, ◌^◌, ◌<◌, ◌≤◌, ◌≢◌, List, ◌++◌, map, length, slice_index_or, take, drop, slice_set, sym, ap, ◌∙◌, subst, inl, inr, arith, length-set, get_or-set_other, get_or-set_same}
 use Rattle.std.proofs.lemmas.List.{take-map, drop-map, map-set, length-map, get_or-map, get_or-take, get_or-drop, get_or_append_left, get_or-append-add, map-append, length-append}
 use Rattle.std.proofs.lemmas.Bool.{cases_eq}
 use Rattle.field.specs.Symbols.{Symbols}
@@ -49,15 +49,14 @@ module _ (Y : Symbols) {S : Type 0} (value : S → Y.Symbol) where
 
     pub left_more : Left n (k + 1) xs after
     left_more =
-        let next : (k + 1) * n ≡ k * n + n = add-mul k 1 n ∙ ap (λ m. k * n + m) (one-mul n) in
         let whole : length (map value x) ≡ n = simp length-map size in
         let sides : length rest ≡ length x + length after = ap length cut ∙ length-append x after in
         record {
           here = λ a.
               sym (get_or-append-add (map value x) (map value after) a Y.ring.zero)
               ∙ (λ i. slice_index_or (sym (map-append value x after) i) (whole i + a) Y.ring.zero)
-              ∙ ap (λ ys. at Y value ys (n + a)) (sym cut) ∙ l.here (n + a) ∙ ap (at Y value xs) (omega (arith, next));
-          long = omega (arith, next, sides, l.long);
+              ∙ ap (λ ys. at Y value ys (n + a)) (sym cut) ∙ l.here (n + a) ∙ ap (at Y value xs) (omega arith);
+          long = omega (arith, sides, l.long);
         }
 
   -- the rows whose place is below n hold f, the others what they held
