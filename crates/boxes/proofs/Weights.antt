@@ -1,28 +1,22 @@
 -- The arithmetic of rows, as the program does it. Assumes nothing.
-use Rattle.std.proofs.Common.{Option, Some, MatchOption, subst, ◌≡◌, ℕ, suc, ◌+◌, ◌-◌, ◌*◌, ◌/◌, ◌%◌, ◌^◌, ◌<◌, ◌≤◌, sym, ap, ◌∙◌, ap₂, mul-le-mul_right, mul_assoc, suc-mul, mul_comm, pow-suc, arith, pow_mono}
-use native.Mathlib.Nat.{div-add-mod}
+use Rattle.std.proofs.Common.{Option, Some, MatchOption, subst, ◌≡◌, ℕ, ◌+◌, ◌-◌, ◌%◌, ◌^◌, ◌<◌, ◌≤◌, ap, ◌∙◌, ap₂, arith}
+use Rattle.std.proofs.lemmas.Nat.{shr_split}
 use Rattle.std.proofs.lemmas.Option.{MatchOption-at_some}
 use Rattle.code.specs.Rows.{lower}
-use Rattle.code.proofs.Pairing.{upper_below}
+use Rattle.code.proofs.Pairing.{lower_is, upper_below}
 use Rattle.boxes.specs.Pairs.{RowsOfPair}
 
 -- the power of a small exponent
 pub power_is : (k r : ℕ) → k ≤ 6 → r ≡ 2 ^ (k % 64) → r ≡ 2 ^ k
 power_is k r h e = e ∙ ap (λ n. 2 ^ n) (omega arith)
 
-pub power_most : (k : ℕ) → k ≤ 6 → 2 ^ k ≤ 64
-power_most k h = pow_mono h
-
-module _ (k w : ℕ) (e : w ≡ 2 ^ k) where
-  pub lower_is : (j : ℕ) → j + (j - j % w) ≡ lower k j
-  lower_is j =
-      let t : j / 2 ^ k * 2 ^ suc k ≡ 2 ^ k * (j / 2 ^ k) * 2 = ap (λ n. j / 2 ^ k * n) (pow-suc 2 k) ∙ sym (mul_assoc (j / 2 ^ k) (2 ^ k) 2) ∙ ap (λ n. n * 2) (mul_comm (j / 2 ^ k) (2 ^ k)) in
-      let s : 2 ^ k * (j / 2 ^ k) + j % 2 ^ k ≡ j = div-add-mod j (2 ^ k) in
-      rw e (omega arith)
+-- j, and once more all of it but the rest below a weight
+pub low_is : (k w j : ℕ) → w ≡ 2 ^ k → j + (j - j % w) ≡ lower k j
+low_is k w j e = rw e (omega (arith, lower_is k j, shr_split j k))
 
 pub rows_of_pair : (m k j w : ℕ) → m ≤ 6 → k < m → j < 2 ^ (m - 1) → w ≡ 2 ^ k → 1 ≤ w → RowsOfPair m k j (j + (j - j % w)) (j + (j - j % w) + w)
 rows_of_pair m k j w hm hk below is positive =
-    let low : j + (j - j % w) ≡ lower k j = lower_is k w is j in
+    let low : j + (j - j % w) ≡ lower k j = low_is k w j is in
     record {
       size = hm;
       digit = hk;
@@ -30,15 +24,8 @@ rows_of_pair m k j w hm hk below is positive =
       is_low = low;
       is_high = ap₂ ◌+◌ low is;
       rising = omega arith;
-      bound = let top : lower k j + 2 ^ k < 2 ^ m = upper_below m k j hk below in omega arith;
+      bound = omega (arith, upper_below m k j hk below);
     }
-
-pub shift_less : (m b : ℕ) → 1 ≤ m → m - (b % m + 1) < m
-shift_less m b h = omega arith
-
--- part b of n parts of r ends within them
-pub part_fits : (b n r : ℕ) → b < n → b * r + r ≤ n * r
-part_fits b n r h = let t : suc b * r ≤ n * r = mul-le-mul_right r h in let u : suc b * r ≡ b * r + r = suc-mul b r in omega arith
 
 -- the rows of a pair, by the size and the digit that the code names
 pub rows_named : {m k m' k' j low high : ℕ} → m ≡ m' → k ≡ k' → RowsOfPair m k j low high → RowsOfPair m' k' j low high

@@ -18,7 +18,7 @@ quotient a b = picked (carries 8 a 0) b
 shifted_sum : (k a b c : ℕ) → picked (shifts k (bit_xor a b)) c ≡ bit_xor (picked (shifts k a) c) (picked (shifts k b) c)
 shifted_sum zero a b c = refl
 shifted_sum (suc k) a b c =
-    (λ i. bit_xor (pick_right (c % 2) a b i) ((ap (λ n. picked (shifts k n) (c / 2)) (xor_twice a b) ∙ shifted_sum k (a * 2) (b * 2) (c / 2)) i))
+    ap₂ bit_xor (pick_right (c % 2) a b) (ap (λ n. picked (shifts k n) (c / 2)) (xor_twice a b) ∙ shifted_sum k (a * 2) (b * 2) (c / 2))
     ∙ xor_swap (pick (c % 2) a) (pick (c % 2) b) (picked (shifts k (a * 2)) (c / 2)) (picked (shifts k (b * 2)) (c / 2))
 
 next_carry : (a b q r : ℕ) → bit_xor (bit_xor q r * 2) (bit_xor a b / 128 % 2) ≡ bit_xor (bit_xor (q * 2) (a / 128 % 2)) (bit_xor (r * 2) (b / 128 % 2))
@@ -29,8 +29,8 @@ next_carry a b q r =
 carried_sum : (k a b q r c : ℕ) → picked (carries k (bit_xor a b) (bit_xor q r)) c ≡ bit_xor (picked (carries k a q) c) (picked (carries k b r) c)
 carried_sum zero a b q r c = refl
 carried_sum (suc k) a b q r c =
-    (λ i. bit_xor (pick_right (c % 2) q r i) ((ap₂ (λ x y. picked (carries k x y) (c / 2)) (twice_sum a b) (next_carry a b q r)
-    ∙ carried_sum k (twice a) (twice b) (bit_xor (q * 2) (a / 128 % 2)) (bit_xor (r * 2) (b / 128 % 2)) (c / 2)) i))
+    ap₂ bit_xor (pick_right (c % 2) q r) (ap₂ (λ x y. picked (carries k x y) (c / 2)) (twice_sum a b) (next_carry a b q r)
+    ∙ carried_sum k (twice a) (twice b) (bit_xor (q * 2) (a / 128 % 2)) (bit_xor (r * 2) (b / 128 % 2)) (c / 2))
     ∙ xor_swap (pick (c % 2) q) (pick (c % 2) r) _ _
 
 quotient_right : (a : ℕ) → Linear (quotient a)

@@ -1,5 +1,5 @@
 -- The loops of the product and of the inverse. Assumes nothing.
-use Rattle.std.proofs.Common.{◌≡◌, ℕ, suc, ◌+◌, ◌-◌, ◌<◌, ◌≤◌, List, [], ◌∷◌, ◌++◌, length, take, drop, slice_set, sym, ap, ◌∙◌, refl, append_assoc, arith, length-set}
+use Rattle.std.proofs.Common.{◌≡◌, ℕ, suc, ◌+◌, ◌-◌, ◌<◌, ◌≤◌, List, [], ◌∷◌, ◌++◌, length, take, drop, slice_set, sym, ap, ◌∙◌, ap₂, refl, append_assoc, arith, length-set}
 use Rattle.std.specs.Int.Bits.{bit_xor, xor_zero_r}
 use Rattle.std.proofs.lemmas.List.{take_more_set, drop_all}
 use Rattle.field.proofs.Binary.{Inverted}
@@ -14,7 +14,7 @@ listed_more n a i d e ds h is l =
     let within : i < length ds = omega (arith, l.0) in
     let left : n - i ≡ suc (n - (i + 1)) = omega arith in (
       length-set ds i d ∙ l.0,
-      (λ j. take_more_set ds i d within j ++ doublings (n - (i + 1)) (is j))
+      ap₂ (λ xs y. xs ++ doublings (n - (i + 1)) y) (take_more_set ds i d within) is
           ∙ append_assoc (take i ds) (d ∷ []) (doublings (n - (i + 1)) (twice d))
           ∙ ap (λ k. take i ds ++ doublings k d) (sym left)
           ∙ l.1,
@@ -32,7 +32,7 @@ pub squares_more : (n k s f t g r : ℕ) → k < n → t ≡ product s s → g �
 unfolding squares
 squares_more n k s f t g r h square found e =
     let left : n - k ≡ suc (n - (k + 1)) = omega arith in
-    (λ i. squares (n - (k + 1)) (square i) ((found ∙ ap (product f) square) i)) ∙ ap (λ m. squares m s f) (sym left) ∙ e
+    ap₂ (squares (n - (k + 1))) square (found ∙ ap (product f) square) ∙ ap (λ m. squares m s f) (sym left) ∙ e
 
 pub squares_all : (n k s f r : ℕ) → n ≤ k → squares (n - k) s f ≡ r → f ≡ r
 unfolding squares

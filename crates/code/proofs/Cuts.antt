@@ -1,56 +1,53 @@
 -- Columns cut to the rows below 2 ^ m: what a matrix does along a digit below m stays below.
 -- Assumes nothing.
-use Rattle.std.proofs.Common.{◌≡◌, ℕ, zero, suc, ◌^◌, ◌<◌, Bool, true, false, [], ◌∷◌, sym, refl, ap, ◌∙◌, subst, ap₂}
+use Rattle.std.proofs.Common.{◌≡◌, ℕ, zero, suc, ◌^◌, ◌<◌, ◌≤◌, Bool, true, false, if◌then◌else◌, nat_lt, [], ◌∷◌, sym, refl, ap, ◌∙◌, ap₂, inl, inr, le-ltb, lt-ltb, arith}
 use mathlib.Core.Path.{fun_ext}
-use native.Mathlib.Decide.{dec_lt}
+use Rattle.std.proofs.lemmas.Bool.{cases_lt, cond-true, cond-false}
 use Rattle.field.specs.Ring.{Ring}
 use Rattle.code.specs.Codes.{sum}
 use Rattle.code.specs.Rows.{odd, digit, partner}
 use Rattle.code.specs.declared.Kind.{Kind}
 use Rattle.field.proofs.Solver.{o, ◌⊕◌, ◌⊗◌, ◌≐◌, ring}
 use Rattle.code.proofs.Digits.{rows, partner_lt, to_to_c, to_bit_c}
-use Rattle.code.proofs.Operators.{Mat, Op}
+use Rattle.code.proofs.Operators.{Mat, mix, Op}
 use Rattle.code.proofs.Matrices.{mat, half_m}
 use Rattle.code.proofs.Halves.{after, halved, after_op, halved_op}
-use Rattle.code.proofs.Sums.{pick, pick_yes, pick_no, sum_ext}
+use Rattle.code.proofs.Sums.{sum_ext}
 
-partner_back : (m k : ℕ) (b : Bool) (a : ℕ) → k < m → partner k b a < 2 ^ m → a < 2 ^ m
-partner_back m k b a h l =
-    subst (λ n. n < 2 ^ m) (to_to_c k (odd (digit k a)) b a ∙ to_bit_c k a) (partner_lt m k (odd (digit k a)) (partner k b a) h l)
+partner_above : (m k : ℕ) (b : Bool) (a : ℕ) → k < m → 2 ^ m ≤ a → 2 ^ m ≤ partner k b a
+partner_above m k b a h l =
+    elim (cases_lt (partner k b a) (2 ^ m)) [
+      | inl w ↦ let back : partner k (odd (digit k a)) (partner k b a) ≡ a = to_to_c k (odd (digit k a)) b a ∙ to_bit_c k a in absurd (omega (arith, partner_lt m k (odd (digit k a)) (partner k b a) h w))
+      | inr w ↦ w
+    ]
 
 module _ {A : Type 0} (R : Ring A) (m : ℕ) where
   abbrev pub cut : (ℕ → A) → ℕ → A
-  cut C a = pick (dec_lt a (2 ^ m)) (C a) R.zero
+  cut C a = if nat_lt a (2 ^ m) then C a else R.zero
 
   pub cut_in : (C : ℕ → A) (a : ℕ) → a < 2 ^ m → cut C a ≡ C a
-  cut_in C a h = pick_yes (dec_lt a (2 ^ m)) (C a) R.zero h
+  cut_in C a h = cond-true (nat_lt a (2 ^ m)) (C a) R.zero (lt-ltb a (2 ^ m) h)
+
+  cut_out : (C : ℕ → A) (a : ℕ) → 2 ^ m ≤ a → cut C a ≡ R.zero
+  cut_out C a h = cond-false (nat_lt a (2 ^ m)) (C a) R.zero (le-ltb a (2 ^ m) h)
+
+  -- a column that is nothing above is its own cut
+  cut_own : (C E : ℕ → A) → ((a : ℕ) → a < 2 ^ m → C a ≡ E a) → ((a : ℕ) → 2 ^ m ≤ a → C a ≡ R.zero) → C ≡ cut E
+  cut_own C E h k = fun_ext λ a.
+      elim (cases_lt a (2 ^ m)) [
+        | inl l ↦ h a l ∙ sym (cut_in E a l)
+        | inr l ↦ k a l ∙ sym (cut_out E a l)
+      ]
 
   -- columns that agree below are the same once cut
   pub cut_same : (C E : ℕ → A) → ((a : ℕ) → a < 2 ^ m → C a ≡ E a) → cut C ≡ cut E
-  cut_same C E h = fun_ext λ a. go a (dec_lt a (2 ^ m))
-    where
-      go : (a : ℕ) (d : Dec (a < 2 ^ m)) → pick d (C a) R.zero ≡ pick d (E a) R.zero
-      go a (yes l) = h a l
-      go a (no l) = refl
-
-  -- a column that is nothing above is its own cut
-  pub cut_own : (C E : ℕ → A) → ((a : ℕ) → a < 2 ^ m → C a ≡ E a) → ((a : ℕ) → ¬ (a < 2 ^ m) → C a ≡ R.zero) → C ≡ cut E
-  cut_own C E h k = fun_ext λ a. go a (dec_lt a (2 ^ m))
-    where
-      go : (a : ℕ) (d : Dec (a < 2 ^ m)) → C a ≡ pick d (E a) R.zero
-      go a (yes l) = h a l
-      go a (no l) = k a l
-
-  cut_out : (C : ℕ → A) (a : ℕ) → ¬ (a < 2 ^ m) → cut C a ≡ R.zero
-  cut_out C a h = pick_no (dec_lt a (2 ^ m)) (C a) R.zero h
+  cut_same C E h = cut_own (cut C) E (λ a l. cut_in C a l ∙ h a l) (cut_out C)
 
   cut_op : (k : ℕ) → k < m → (M : Mat A) (C : ℕ → A) → Op R rows k M (cut C) ≡ cut (Op R rows k M C)
   cut_op k h M C =
       cut_own (Op R rows k M (cut C)) (Op R rows k M C)
-      (λ a l. ap₂ (λ x y. R.plus (R.times (M (odd (digit k a)) false) x) (R.times (M (odd (digit k a)) true) y))
-      (cut_in C (partner k false a) (partner_lt m k false a h l)) (cut_in C (partner k true a) (partner_lt m k true a h l)))
-      (λ a l. ap₂ (λ x y. R.plus (R.times (M (odd (digit k a)) false) x) (R.times (M (odd (digit k a)) true) y))
-      (cut_out C (partner k false a) (λ w. l (partner_back m k false a h w))) (cut_out C (partner k true a) (λ w. l (partner_back m k true a h w)))
+      (λ a l. ap₂ (mix R M (odd (digit k a))) (cut_in C (partner k false a) (partner_lt m k false a h l)) (cut_in C (partner k true a) (partner_lt m k true a h l)))
+      (λ a l. ap₂ (mix R M (odd (digit k a))) (cut_out C (partner k false a) (partner_above m k false a h l)) (cut_out C (partner k true a) (partner_above m k true a h l))
       ∙ ring R (M (odd (digit k a)) false ∷ M (odd (digit k a)) true ∷ []) (λ x y. x ⊗ o ⊕ y ⊗ o ≐ o) refl)
 
   pub cut_after : (u : Kind) (k : ℕ) → k < m → (p q : A) (C : ℕ → A) → after R rows u k p q (cut C) ≡ cut (after R rows u k p q C)

@@ -1,18 +1,34 @@
 -- A file's columns and parities, and what the halves of all columns but one, and of the parities, say of that one.
 -- Assumes nothing.
-use Rattle.std.proofs.Common.{◌≡◌, ℕ, zero, suc, ◌<◌, Bool, true, false, ◌≢◌, [], ◌∷◌, sym, refl, ap, ◌∙◌, subst, ap₂}
+use Rattle.std.proofs.Common.{◌≡◌, ℕ, zero, suc, ◌<◌, Bool, true, false, if◌then◌else◌, ◌==◌, ◌≢◌, [], ◌∷◌, sym, refl, ap, ◌∙◌, subst, ap₂, inl, inr}
 use mathlib.Core.Path.{fun_ext}
-use native.Mathlib.Decide.{ℕ_discrete}
+use Rattle.std.proofs.lemmas.Bool.{cases_eq}
 use Rattle.field.specs.Ring.{Ring}
 use Rattle.code.specs.Codes.{sum}
-use Rattle.field.proofs.Solver.{o, i, ◌⊕◌, ◌⊗◌, ◌⊖◌, ◌≐◌, ◌⟸◌, ◌·◌, ring, ring_by}
+use Rattle.field.proofs.Solver.{o, ◌⊕◌, ◌⊗◌, ◌≐◌, ring}
 use Rattle.code.proofs.Digits.{Digits}
-use Rattle.code.proofs.Operators.{Mat, Op, op_add}
+use Rattle.code.proofs.Operators.{Mat, mix, Op, op_add}
 use Rattle.code.specs.declared.Kind.{Kind}
 use Rattle.code.specs.Recovery.{eigenvalue, recover}
 use Rattle.code.proofs.Matrices.{half_m, mat}
 use Rattle.code.proofs.Halves.{after, halved, after_op, halved_op, half_same, half_else, restore, restored, Flat, restore_at, restore_half, restore_block}
-use Rattle.code.proofs.Sums.{but, pick, pick_yes, pick_no, but_ext, sum_but}
+use Rattle.code.proofs.Sums.{but, if_same, if_other, but_ext, term_left, sum_again}
+
+-- n boxes, each with its kind and the place of its digit; two of one place differ in kind; each place has its two marks
+pub record Boxes (A : Type 0) : Type 0 where
+  pub n : ℕ
+  pub kind : ℕ → Kind
+  pub place : ℕ → ℕ
+  pub apart : (b c : ℕ) → b < n → c < n → b ≢ c → place b ≡ place c → kind b ≢ kind c
+  pub p : ℕ → A
+  pub q : ℕ → A
+
+-- a lost one of them, and the inverse of the difference of its marks
+pub record Lost {A : Type 0} (R : Ring A) (B : Boxes A) : Type 0 where
+  pub x : ℕ
+  pub inside : x < B.n
+  pub d : A
+  pub inverse : R.times d (R.plus (B.q x) (R.negative (B.p x))) ≡ R.one
 
 module _ {A Row : Type 0} (R : Ring A) (D : Digits Row) where
   infixl 60 ◌+◌
@@ -32,9 +48,9 @@ module _ {A Row : Type 0} (R : Ring A) (D : Digits Row) where
   halved_total u k n f =
       halved_op R D u k (total n f) ∙ op_total k (half_m R u) n f ∙ ap (total n) (fun_ext λ b. sym (halved_op R D u k (f b)))
 
-  -- n boxes, each with its kind and the place of its digit; two of one place differ in kind; each place has its two marks
-  module _ (n : ℕ) (kind : ℕ → Kind) (place : ℕ → ℕ) (apart : (b c : ℕ) → b < n → c < n → b ≢ c → place b ≡ place c → kind b ≢ kind c)
-      (p q : ℕ → A) where
+  module _ (B : Boxes A) where
+    open B use {n, kind, place, p, q}
+
     abbrev pub blocks : ℕ → (Row → A) → Row → A
     blocks b = after R D (kind b) (place b) (p b) (q b)
 
@@ -44,143 +60,130 @@ module _ {A Row : Type 0} (R : Ring A) (D : Digits Row) where
     abbrev pub parity2 : (ℕ → Row → A) → Row → A
     parity2 f = total n (λ b. blocks b (f b))
 
-    -- the file has these halves, for the lost box x
-    pub record Halves (x : ℕ) (f g : ℕ → Row → A) (g1 g2 : Row → A) : Type 0 where
+    -- the file has these halves, for the lost box x; those of the two parities stand after those of the n boxes
+    pub record Halves (x : ℕ) (f g : ℕ → Row → A) : Type 0 where
       pub each : (b : ℕ) → b < n → b ≢ x → halved R D (kind x) (place x) (f b) ≡ g b
-      pub first : halved R D (kind x) (place x) (parity1 f) ≡ g1
-      pub second : halved R D (kind x) (place x) (parity2 f) ≡ g2
+      pub first : halved R D (kind x) (place x) (parity1 f) ≡ g n
+      pub second : halved R D (kind x) (place x) (parity2 f) ≡ g (suc n)
 
-    module _ (x : ℕ) (inside : x < n) (d : A) (inverse : d * (q x + neg (p x)) ≡ one) where
+    module _ (L : Lost R B) where
+      open L use {x, inside, d, inverse}
+
       abbrev H : (Row → A) → Row → A
       H = halved R D (kind x) (place x)
 
       -- what the half of a box's column after its blocks is, from its half
-      known_at : (b : ℕ) → Dec (place b ≡ place x) → (Row → A) → Row → A
-      known_at b (yes e) G a = eigenvalue R (kind x) (kind b) (p b) (q b) * G a
-      known_at b (no h) G a = blocks b G a
-
-      known_at_is : (b : ℕ) → b < n → b ≢ x → (t : Dec (place b ≡ place x)) (C : Row → A) → H (blocks b C) ≡ known_at b t (H C)
-      unfolding known_at
-      known_at_is b l h (yes e) C =
-          subst (λ k. halved R D (kind x) k (blocks b C) ≡ λ a. eigenvalue R (kind x) (kind b) (p b) (q b) * halved R D (kind x) k C a) e
-          (half_same R D (kind x) (kind b) (apart x b inside l (λ w. h (sym w)) (sym e)) (place b) (p b) (q b) C)
-      known_at_is b l h (no k) C = half_else R D (kind x) (kind b) (place x) (place b) (λ w. k (sym w)) (p b) (q b) C
-
       pub known : ℕ → (Row → A) → Row → A
-      known b = known_at b (ℕ_discrete (place b) (place x))
+      known b G a = if place b == place x then eigenvalue R (kind x) (kind b) (p b) (q b) * G a else blocks b G a
+
+      pub known_at : (b : ℕ) (G : Row → A) (a : Row) → known b G a ≡ (if place b == place x then eigenvalue R (kind x) (kind b) (p b) (q b) * G a else blocks b G a)
+      unfolding known
+      known_at b G a = refl
+
+      known_same : (b : ℕ) → place b ≡ place x → (G : Row → A) → known b G ≡ λ a. eigenvalue R (kind x) (kind b) (p b) (q b) * G a
+      known_same b e G = fun_ext λ a. known_at b G a ∙ if_same (place b) (place x) e _ _
+
+      known_else : (b : ℕ) → place b ≢ place x → (G : Row → A) → known b G ≡ blocks b G
+      known_else b n G = fun_ext λ a. known_at b G a ∙ if_other (place b) (place x) n _ _
 
       known_is : (b : ℕ) → b < n → b ≢ x → (C : Row → A) → H (blocks b C) ≡ known b (H C)
-      unfolding known
-      known_is b l h C = known_at_is b l h (ℕ_discrete (place b) (place x)) C
+      known_is b l h C =
+          elim (cases_eq (place b) (place x)) [
+            | inl e ↦
+                subst (λ k. halved R D (kind x) k (blocks b C) ≡ λ a. eigenvalue R (kind x) (kind b) (p b) (q b) * halved R D (kind x) k C a) e
+                (half_same R D (kind x) (kind b) (B.apart x b inside l (λ w. h (sym w)) (sym e)) (place b) (p b) (q b) C)
+                ∙ sym (known_same b e (H C))
+            | inr k ↦ half_else R D (kind x) (kind b) (place x) (place b) (λ w. k (sym w)) (p b) (q b) C ∙ sym (known_else b k (H C))
+          ]
 
       -- the halves of the lost column and of what its blocks make of it
-      need1 : (ℕ → Row → A) → (Row → A) → Row → A
-      need1 g g1 a = g1 a + neg (but R n x (λ b. g b a))
+      need1 : (ℕ → Row → A) → Row → A
+      need1 g a = g n a + neg (but R n x (λ b. g b a))
 
-      need2 : (ℕ → Row → A) → (Row → A) → Row → A
-      need2 g g2 a = g2 a + neg (but R n x (λ b. known b (g b) a))
+      need2 : (ℕ → Row → A) → Row → A
+      need2 g a = g (suc n) a + neg (but R n x (λ b. known b (g b) a))
 
-      -- the column given by a set of halves
-      pub given : (ℕ → Row → A) → (Row → A) → (Row → A) → Row → A
-      given g g1 g2 = restore R D (kind x) (place x) (p x) (q x) d (need1 g g1) (need2 g g2)
+      -- a column of box x from two halves, and the column given by a set of halves
+      abbrev back : (Row → A) → (Row → A) → Row → A
+      back = restore R D (kind x) (place x) (p x) (q x) d
 
-      part1 : (f g : ℕ → Row → A) (g1 g2 : Row → A) → Halves x f g g1 g2 → H (f x) ≡ need1 g g1
+      pub given : (ℕ → Row → A) → Row → A
+      given g = back (need1 g) (need2 g)
+
+      part1 : (f g : ℕ → Row → A) → Halves x f g → H (f x) ≡ need1 g
       unfolding need1
-      part1 f g g1 g2 h = fun_ext λ a.
-          ring_by R (H (f x) a ∷ g1 a ∷ but R n x (λ b. g b a) ∷ []) (λ y z w. y ≐ z ⊖ w ⟸ (i · y ⊕ w ≐ z) ∷ []) refl
-          (ap (λ s. H (f x) a + s) (sym (but_ext R n x (λ b. H (f b) a) (λ b. g b a) (λ b l k. ap (λ X. X a) (h.each b l k))))
-          ∙ sym (sum_but R n x (λ b. H (f b) a) inside) ∙ ap (λ X. X a) (sym (halved_total (kind x) (place x) n f) ∙ h.first))
+      part1 f g h = fun_ext λ a.
+          term_left R n x (λ b. H (f b) a) (λ b. g b a) (g n a) inside (λ b l k. ap (λ X. X a) (h.each b l k))
+          (ap (λ X. X a) (sym (halved_total (kind x) (place x) n f) ∙ h.first))
 
-      part2 : (f g : ℕ → Row → A) (g1 g2 : Row → A) → Halves x f g g1 g2 → H (blocks x (f x)) ≡ need2 g g2
+      part2 : (f g : ℕ → Row → A) → Halves x f g → H (blocks x (f x)) ≡ need2 g
       unfolding need2
-      part2 f g g1 g2 h = fun_ext λ a.
-          ring_by R (H (blocks x (f x)) a ∷ g2 a ∷ but R n x (λ b. known b (g b) a) ∷ []) (λ y z w. y ≐ z ⊖ w ⟸ (i · y ⊕ w ≐ z) ∷ []) refl
-          (ap (λ s. H (blocks x (f x)) a + s)
-          (sym (but_ext R n x (λ b. H (blocks b (f b)) a) (λ b. known b (g b) a) (λ b l k. ap (λ X. X a) (known_is b l k (f b) ∙ ap (known b) (h.each b l k)))))
-          ∙ sym (sum_but R n x (λ b. H (blocks b (f b)) a) inside) ∙ ap (λ X. X a) (sym (halved_total (kind x) (place x) n (λ b. blocks b (f b))) ∙ h.second))
+      part2 f g h = fun_ext λ a.
+          term_left R n x (λ b. H (blocks b (f b)) a) (λ b. known b (g b) a) (g (suc n) a) inside (λ b l k. ap (λ X. X a) (known_is b l k (f b) ∙ ap (known b) (h.each b l k)))
+          (ap (λ X. X a) (sym (halved_total (kind x) (place x) n (λ b. blocks b (f b))) ∙ h.second))
 
       -- every file that has the halves has the given column
-      pub agree : (f g : ℕ → Row → A) (g1 g2 : Row → A) → Halves x f g g1 g2 → f x ≡ given g g1 g2
+      pub agree : (f g : ℕ → Row → A) → Halves x f g → f x ≡ given g
       unfolding given
-      agree f g g1 g2 h =
-          sym (restored R D (kind x) (place x) (p x) (q x) d inverse (f x))
-          ∙ ap₂ (restore R D (kind x) (place x) (p x) (q x) d) (part1 f g g1 g2 h) (part2 f g g1 g2 h)
+      agree f g h = sym (restored R D (kind x) (place x) (p x) (q x) d inverse (f x)) ∙ ap₂ back (part1 f g h) (part2 f g h)
 
       -- and such a file there is, whatever the halves
       op_flat : (k l : ℕ) → l ≢ k → (M : Mat A) (G : Row → A) → Flat R D k G → Flat R D k (Op R D l M G)
       op_flat k l h M G g b a =
-          ap₂ (λ c x. M c false * x + M c true * G (to l true (to k b a))) (D.bit_else l k h b a) (ap G (D.to_else l k h false b a) ∙ g b (to l false a))
-          ∙ ap (λ x. M (bit l a) false * G (to l false a) + M (bit l a) true * x) (ap G (D.to_else l k h true b a) ∙ g b (to l true a))
+          ap₂ (λ c x. mix R M c x (G (to l true (to k b a)))) (D.bit_else l k h b a) (ap G (D.to_else l k h false b a) ∙ g b (to l false a))
+          ∙ ap (mix R M (bit l a) (G (to l false a))) (ap G (D.to_else l k h true b a) ∙ g b (to l true a))
 
-      known_flat : (b : ℕ) (t : Dec (place b ≡ place x)) (G : Row → A) → Flat R D (place x) G → Flat R D (place x) (known_at b t G)
-      unfolding known_at
-      known_flat b (yes e) G g c a = ap (λ y. eigenvalue R (kind x) (kind b) (p b) (q b) * y) (g c a)
-      known_flat b (no h) G g c a =
-          subst (Flat R D (place x)) (sym (after_op R D (kind b) (place b) (p b) (q b) G)) (op_flat (place x) (place b) h (mat R (kind b) (p b) (q b)) G g) c a
+      known_flat : (b : ℕ) (G : Row → A) → Flat R D (place x) G → Flat R D (place x) (known b G)
+      known_flat b G g =
+          elim (cases_eq (place b) (place x)) [
+            | inl e ↦ subst (Flat R D (place x)) (sym (known_same b e G)) (λ c a. ap (λ y. eigenvalue R (kind x) (kind b) (p b) (q b) * y) (g c a))
+            | inr h ↦ subst (Flat R D (place x)) (sym (known_else b h G ∙ after_op R D (kind b) (place b) (p b) (q b) G)) (op_flat (place x) (place b) h (mat R (kind b) (p b) (q b)) G g)
+          ]
 
-      flat1 : (g : ℕ → Row → A) (g1 : Row → A) → ((b : ℕ) → Flat R D (place x) (g b)) → Flat R D (place x) g1 → Flat R D (place x) (need1 g g1)
+      abbrev pub AllFlat : (ℕ → Row → A) → Type 0
+      AllFlat g = (b : ℕ) → Flat R D (place x) (g b)
+
+      flat1 : (g : ℕ → Row → A) → AllFlat g → Flat R D (place x) (need1 g)
       unfolding need1
-      flat1 g g1 h h1 c a = ap₂ (λ y z. y + neg z) (h1 c a) (but_ext R n x _ _ (λ b l k. h b c a))
+      flat1 g h c a = ap₂ (λ y z. y + neg z) (h n c a) (but_ext R n x _ _ (λ b l k. h b c a))
 
-      flat2 : (g : ℕ → Row → A) (g2 : Row → A) → ((b : ℕ) → Flat R D (place x) (g b)) → Flat R D (place x) g2 → Flat R D (place x) (need2 g g2)
-      unfolding need2 known
-      flat2 g g2 h h2 c a = ap₂ (λ y z. y + neg z) (h2 c a) (but_ext R n x _ _ (λ b l k. known_flat b (ℕ_discrete (place b) (place x)) (g b) (h b) c a))
+      flat2 : (g : ℕ → Row → A) → AllFlat g → Flat R D (place x) (need2 g)
+      unfolding need2
+      flat2 g h c a = ap₂ (λ y z. y + neg z) (h (suc n) c a) (but_ext R n x _ _ (λ b l k. known_flat b (g b) (h b) c a))
 
       none : Row → A
       none a = nil
 
-      made : (ℕ → Row → A) → (Row → A) → (Row → A) → ℕ → Row → A
-      made g g1 g2 b = pick (ℕ_discrete b x) (given g g1 g2) (restore R D (kind x) (place x) (p x) (q x) d (g b) none)
+      made : (ℕ → Row → A) → ℕ → Row → A
+      made g b = if b == x then given g else back (g b) none
 
-      made_each : (g : ℕ → Row → A) (g1 g2 : Row → A) → ((b : ℕ) → Flat R D (place x) (g b)) → (b : ℕ) → b ≢ x → H (made g g1 g2 b) ≡ g b
+      made_each : (g : ℕ → Row → A) → AllFlat g → (b : ℕ) → b ≢ x → H (made g b) ≡ g b
       unfolding made none
-      made_each g g1 g2 h b k =
-          ap H (pick_no (ℕ_discrete b x) _ _ k) ∙ restore_half R D (kind x) (place x) (p x) (q x) d inverse (g b) none (h b) (λ c a. refl)
+      made_each g h b k = ap H (if_other b x k _ _) ∙ restore_half R D (kind x) (place x) (p x) (q x) d inverse (g b) none (h b) (λ c a. refl)
 
-      made_at : (g : ℕ → Row → A) (g1 g2 : Row → A) → made g g1 g2 x ≡ given g g1 g2
+      made_at : (g : ℕ → Row → A) → made g x ≡ given g
       unfolding made
-      made_at g g1 g2 = pick_yes (ℕ_discrete x x) _ _ refl
+      made_at g = if_same x x refl _ _
 
-      pub exist : (g : ℕ → Row → A) (g1 g2 : Row → A) → ((b : ℕ) → Flat R D (place x) (g b)) → Flat R D (place x) g1 → Flat R D (place x) g2
-          → (f : ℕ → Row → A) × Halves x f g g1 g2
+      pub exist : (g : ℕ → Row → A) → AllFlat g → (f : ℕ → Row → A) × Halves x f g
       unfolding given need1 need2
-      exist g g1 g2 h h1 h2 =
-          let f = made g g1 g2 in (
+      exist g h =
+          let f = made g in (
             f,
             record {
-              each = λ b l k. made_each g g1 g2 h b k;
+              each = λ b l k. made_each g h b k;
               first = halved_total (kind x) (place x) n f ∙ fun_ext λ a.
-                  sum_but R n x (λ b. H (f b) a) inside
-                  ∙ ap₂ ◌+◌ (ap (λ X. H X a) (made_at g g1 g2) ∙ ap (λ X. X a) (restore_half R D (kind x) (place x) (p x) (q x) d inverse (need1 g g1) (need2 g g2) (flat1 g g1 h h1) (flat2 g g2 h h2)))
-                  (but_ext R n x (λ b. H (f b) a) (λ b. g b a) (λ b l k. ap (λ X. X a) (made_each g g1 g2 h b k)))
-                  ∙ ring R (g1 a ∷ but R n x (λ b. g b a) ∷ []) (λ y z. y ⊖ z ⊕ z ≐ y) refl;
+                  sum_again R n x (λ b. H (f b) a) (λ b. g b a) (g n a) inside (λ b l k. ap (λ X. X a) (made_each g h b k))
+                  (ap (λ X. X a) (ap H (made_at g) ∙ restore_half R D (kind x) (place x) (p x) (q x) d inverse (need1 g) (need2 g) (flat1 g h) (flat2 g h)));
               second = halved_total (kind x) (place x) n (λ b. blocks b (f b)) ∙ fun_ext λ a.
-                  sum_but R n x (λ b. H (blocks b (f b)) a) inside
-                  ∙ ap₂ ◌+◌ (ap (λ X. H (blocks x X) a) (made_at g g1 g2) ∙ ap (λ X. X a) (restore_block R D (kind x) (place x) (p x) (q x) d inverse (need1 g g1) (need2 g g2) (flat1 g g1 h h1) (flat2 g g2 h h2)))
-                  (but_ext R n x (λ b. H (blocks b (f b)) a) (λ b. known b (g b) a) (λ b l k. ap (λ X. X a) (known_is b l k (f b) ∙ ap (known b) (made_each g g1 g2 h b k))))
-                  ∙ ring R (g2 a ∷ but R n x (λ b. known b (g b) a) ∷ []) (λ y z. y ⊖ z ⊕ z ≐ y) refl;
+                  sum_again R n x (λ b. H (blocks b (f b)) a) (λ b. known b (g b) a) (g (suc n) a) inside (λ b l k. ap (λ X. X a) (known_is b l k (f b) ∙ ap (known b) (made_each g h b k)))
+                  (ap (λ X. X a) (ap (λ X. H (blocks x X)) (made_at g) ∙ restore_block R D (kind x) (place x) (p x) (q x) d inverse (need1 g) (need2 g) (flat1 g h) (flat2 g h)));
             },
           )
 
-      -- the given column at a row, and its parts, as the layers above read them
-      pub known_same : (b : ℕ) → place b ≡ place x → (G : Row → A) (a : Row) → known b G a ≡ eigenvalue R (kind x) (kind b) (p b) (q b) * G a
-      unfolding known known_at
-      known_same b e G a = at (ℕ_discrete (place b) (place x))
-        where
-          at : (t : Dec (place b ≡ place x)) → known_at b t G a ≡ eigenvalue R (kind x) (kind b) (p b) (q b) * G a
-          at (yes h) = refl
-          at (no h) = absurd (h e)
-
-      pub known_else : (b : ℕ) → place b ≢ place x → (G : Row → A) (a : Row) → known b G a ≡ blocks b G a
-      unfolding known known_at
-      known_else b n G a = at (ℕ_discrete (place b) (place x))
-        where
-          at : (t : Dec (place b ≡ place x)) → known_at b t G a ≡ blocks b G a
-          at (yes h) = absurd (n h)
-          at (no h) = refl
-
-      pub given_at : (g : ℕ → Row → A) (g1 g2 : Row → A) → ((b : ℕ) → Flat R D (place x) (g b)) → Flat R D (place x) g1 → Flat R D (place x) g2 → (b : Bool) (a : Row)
-          → given g g1 g2 (to (place x) b a)
-          ≡ recover R (kind x) (p x) (q x) d (g1 a + neg (but R n x (λ b. g b a))) (g2 a + neg (but R n x (λ b. known b (g b) a))) b
+      -- the given column at a row, as the layers above read it
+      pub given_at : (g : ℕ → Row → A) → AllFlat g → (b : Bool) (a : Row)
+          → given g (to (place x) b a)
+          ≡ recover R (kind x) (p x) (q x) d (g n a + neg (but R n x (λ b. g b a))) (g (suc n) a + neg (but R n x (λ b. known b (g b) a))) b
       unfolding given need1 need2
-      given_at g g1 g2 h h1 h2 b a = restore_at R D (kind x) (place x) (p x) (q x) d (need1 g g1) (need2 g g2) (flat1 g g1 h h1) (flat2 g g2 h h2) b a
+      given_at g h b a = restore_at R D (kind x) (place x) (p x) (q x) d (need1 g) (need2 g) (flat1 g h) (flat2 g h) b a

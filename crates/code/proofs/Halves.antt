@@ -5,7 +5,7 @@ use mathlib.Core.Path.{fun_ext}
 use Rattle.field.specs.Ring.{Ring}
 use Rattle.field.proofs.Solver.{◌⊕◌, ◌⊗◌, ◌≐◌, ring}
 use Rattle.code.proofs.Digits.{Digits}
-use Rattle.code.proofs.Operators.{Mat, Op, times, scale, op_op, op_comm, op_same}
+use Rattle.code.proofs.Operators.{Mat, mix, Op, times, scale, op_op, op_comm, op_same}
 use Rattle.code.specs.Blocks.{block, half}
 use Rattle.code.specs.Recovery.{eigenvalue, recover}
 use Rattle.code.specs.declared.Kind.{Kind}
@@ -30,6 +30,9 @@ module _ {A Row : Type 0} (R : Ring A) (D : Digits Row) where
   pub halved_op : (u : Kind) (k : ℕ) (C : Row → A) → halved u k C ≡ Op R D k (half_m R u) C
   halved_op u k C = fun_ext λ a. half_is R u (C (to k false a)) (C (to k true a)) (bit k a)
 
+  halved_after : (u v : Kind) (k : ℕ) (p q : A) (C : Row → A) → halved u k (after v k p q C) ≡ Op R D k (times R (half_m R u) (mat R v p q)) C
+  halved_after u v k p q C = halved_op u k (after v k p q C) ∙ ap (Op R D k (half_m R u)) (after_op v k p q C) ∙ op_op R D k (half_m R u) (mat R v p q) C
+
   -- (1) the half of a column after the blocks of another kind of the same direction is a multiple of its half
   op_times : (k : ℕ) (x : A) (M : Mat A) (C : Row → A) → Op R D k (λ b c. x * M b c) C ≡ scale R D x (Op R D k M C)
   op_times k x M C = fun_ext λ a.
@@ -38,7 +41,7 @@ module _ {A Row : Type 0} (R : Ring A) (D : Digits Row) where
   pub half_same : (u v : Kind) → u ≢ v → (k : ℕ) (p q : A) (C : Row → A)
       → halved u k (after v k p q C) ≡ scale R D (eigenvalue R u v p q) (halved u k C)
   half_same u v h k p q C =
-      halved_op u k (after v k p q C) ∙ ap (Op R D k (half_m R u)) (after_op v k p q C) ∙ op_op R D k (half_m R u) (mat R v p q) C
+      halved_after u v k p q C
       ∙ op_same R D k _ (λ b c. R.times (eigenvalue R u v p q) (half_m R u b c)) (half_block R u v h p q) C ∙ op_times k (eigenvalue R u v p q) (half_m R u) C
       ∙ ap (scale R D (eigenvalue R u v p q)) (sym (halved_op u k C))
 
@@ -60,7 +63,7 @@ module _ {A Row : Type 0} (R : Ring A) (D : Digits Row) where
   pub restored : (u : Kind) (k : ℕ) (p q d : A) → d * (q + neg p) ≡ one → (C : Row → A)
       → restore u k p q d (halved u k C) (halved u k (after u k p q C)) ≡ C
   restored u k p q d h C =
-      ap₂ (restore u k p q d) (halved_op u k C) (halved_op u k (after u k p q C) ∙ ap (Op R D k (half_m R u)) (after_op u k p q C) ∙ op_op R D k (half_m R u) (mat R u p q) C)
+      ap₂ (restore u k p q d) (halved_op u k C) (halved_after u u k p q C)
       ∙ fun_ext λ a. recover_is R u p q d (C (to k false a)) (C (to k true a)) (bit k a) (bit k a) h ∙ at_pair k C a (bit k a) ∙ ap C (D.to_bit k a)
 
   -- a half is one number for each pair
@@ -72,9 +75,9 @@ module _ {A Row : Type 0} (R : Ring A) (D : Digits Row) where
   restore_at u k p q d G H g h b a = rw (g b a, h b a, D.bit_to k b a)
 
   op_restore : (u : Kind) (k : ℕ) (p q d : A) (G H : Row → A) → Flat k G → Flat k H → (M : Mat A) (a : Row)
-      → Op R D k M (restore u k p q d G H) a ≡ M (bit k a) false * recover R u p q d (G a) (H a) false + M (bit k a) true * recover R u p q d (G a) (H a) true
+      → Op R D k M (restore u k p q d G H) a ≡ mix R M (bit k a) (recover R u p q d (G a) (H a) false) (recover R u p q d (G a) (H a) true)
   op_restore u k p q d G H g h M a =
-      ap₂ (λ x y. M (bit k a) false * x + M (bit k a) true * y) (restore_at u k p q d G H g h false a) (restore_at u k p q d G H g h true a)
+      ap₂ (mix R M (bit k a)) (restore_at u k p q d G H g h false a) (restore_at u k p q d G H g h true a)
 
   pub restore_half : (u : Kind) (k : ℕ) (p q d : A) → d * (q + neg p) ≡ one → (G H : Row → A) → Flat k G → Flat k H
       → halved u k (restore u k p q d G H) ≡ G
@@ -84,8 +87,5 @@ module _ {A Row : Type 0} (R : Ring A) (D : Digits Row) where
   pub restore_block : (u : Kind) (k : ℕ) (p q d : A) → d * (q + neg p) ≡ one → (G H : Row → A) → Flat k G → Flat k H
       → halved u k (after u k p q (restore u k p q d G H)) ≡ H
   restore_block u k p q d e G H g h =
-      halved_op u k (after u k p q X) ∙ ap (Op R D k (half_m R u)) (after_op u k p q X) ∙ op_op R D k (half_m R u) (mat R u p q) X
+      halved_after u u k p q (restore u k p q d G H)
       ∙ fun_ext λ a. op_restore u k p q d G H g h (times R (half_m R u) (mat R u p q)) a ∙ recover_block R u p q d (G a) (H a) (bit k a) e
-    where
-      X : Row → A
-      X = restore u k p q d G H

@@ -7,7 +7,7 @@ use Rattle.code.specs.Recovery.{eigenvalue, recover}
 use Rattle.code.specs.declared.Kind.{Kind}
 use Rattle.code.specs.declared.Kind.TheVariants.{Lower, Upper, Sum}
 use Rattle.field.proofs.Solver.{o, i, ◌⊕◌, ◌⊗◌, ◌⊖◌, ◌≐◌, ◌⟸◌, ◌·◌, ring, ring_by}
-use Rattle.code.proofs.Operators.{Mat, times}
+use Rattle.code.proofs.Operators.{Mat, mix, times}
 
 module _ {A : Type 0} (R : Ring A) where
   infixl 60 ◌+◌
@@ -41,7 +41,7 @@ module _ {A : Type 0} (R : Ring A) where
   half_m Sum b false = one
   half_m Sum b true = one
 
-  pub block_is : (u : Kind) (p q s t : A) (b : Bool) → block R u p q s t b ≡ mat u p q b false * s + mat u p q b true * t
+  pub block_is : (u : Kind) (p q s t : A) (b : Bool) → block R u p q s t b ≡ mix R (mat u p q) b s t
   block_is Lower p q s t false = refl
   block_is Lower p q s t true = ring R (p ∷ q ∷ s ∷ t ∷ []) (λ p q s t. p ⊗ t ≐ o ⊗ s ⊕ p ⊗ t) refl
   block_is Upper p q s t false = ring R (p ∷ q ∷ s ∷ t ∷ []) (λ p q s t. q ⊗ s ≐ q ⊗ s ⊕ o ⊗ t) refl
@@ -49,7 +49,7 @@ module _ {A : Type 0} (R : Ring A) where
   block_is Sum p q s t false = ring R (p ∷ q ∷ s ∷ t ∷ []) (λ p q s t. p ⊗ s ≐ p ⊗ s ⊕ o ⊗ t) refl
   block_is Sum p q s t true = ring R (p ∷ q ∷ s ∷ t ∷ []) (λ p q s t. q ⊗ t ≐ o ⊗ s ⊕ q ⊗ t) refl
 
-  pub half_is : (u : Kind) (s t : A) (b : Bool) → half R u s t ≡ half_m u b false * s + half_m u b true * t
+  pub half_is : (u : Kind) (s t : A) (b : Bool) → half R u s t ≡ mix R (half_m u) b s t
   half_is Lower s t b = ring R (s ∷ t ∷ []) (λ s t. s ≐ i ⊗ s ⊕ o ⊗ t) refl
   half_is Upper s t b = ring R (s ∷ t ∷ []) (λ s t. t ≐ o ⊗ s ⊕ i ⊗ t) refl
   half_is Sum s t b = ring R (s ∷ t ∷ []) (λ s t. s ⊕ t ≐ i ⊗ s ⊕ i ⊗ t) refl
@@ -77,7 +77,7 @@ module _ {A : Type 0} (R : Ring A) where
   pair s t true = t
 
   pub recover_is : (u : Kind) (p q d s t : A) (a b : Bool) → d * (q ∸ p) ≡ one
-      → let N = times R (half_m u) (mat u p q) in recover R u p q d (half_m u a false * s + half_m u a true * t) (N a false * s + N a true * t) b ≡ pair s t b
+      → recover R u p q d (mix R (half_m u) a s t) (mix R (times R (half_m u) (mat u p q)) a s t) b ≡ pair s t b
   recover_is Lower p q d s t a false = ring_by R (p ∷ q ∷ d ∷ s ∷ t ∷ []) (λ p q d s t. (i ⊗ s ⊕ o ⊗ t) ≐ s ⟸ (o · d ⊗ (q ⊖ p) ≐ i) ∷ []) refl
   recover_is Lower p q d s t a true = ring_by R (p ∷ q ∷ d ∷ s ∷ t ∷ []) (λ p q d s t. d ⊗ (((i ⊗ q ⊕ o ⊗ o) ⊗ s ⊕ (i ⊗ (q ⊖ p) ⊕ o ⊗ p) ⊗ t) ⊖ q ⊗ (i ⊗ s ⊕ o ⊗ t)) ≐ t ⟸ (t · d ⊗ (q ⊖ p) ≐ i) ∷ []) refl
   recover_is Upper p q d s t a false = ring_by R (p ∷ q ∷ d ∷ s ∷ t ∷ []) (λ p q d s t. d ⊗ (p ⊗ (o ⊗ s ⊕ i ⊗ t) ⊖ ((o ⊗ q ⊕ i ⊗ (p ⊖ q)) ⊗ s ⊕ (o ⊗ o ⊕ i ⊗ p) ⊗ t)) ≐ s ⟸ (s · d ⊗ (q ⊖ p) ≐ i) ∷ []) refl
@@ -87,13 +87,13 @@ module _ {A : Type 0} (R : Ring A) where
 
   -- and any two numbers are the halves of a pair and of its block
   pub recover_half : (u : Kind) (p q d g h : A) (a : Bool) → d * (q ∸ p) ≡ one
-      → half_m u a false * recover R u p q d g h false + half_m u a true * recover R u p q d g h true ≡ g
+      → mix R (half_m u) a (recover R u p q d g h false) (recover R u p q d g h true) ≡ g
   recover_half Lower p q d g h a = ring_by R (p ∷ q ∷ d ∷ g ∷ h ∷ []) (λ p q d g h. i ⊗ (g) ⊕ o ⊗ (d ⊗ (h ⊖ q ⊗ g)) ≐ g ⟸ (o · d ⊗ (q ⊖ p) ≐ i) ∷ []) refl
   recover_half Upper p q d g h a = ring_by R (p ∷ q ∷ d ∷ g ∷ h ∷ []) (λ p q d g h. o ⊗ (d ⊗ (p ⊗ g ⊖ h)) ⊕ i ⊗ (g) ≐ g ⟸ (o · d ⊗ (q ⊖ p) ≐ i) ∷ []) refl
   recover_half Sum p q d g h a = ring_by R (p ∷ q ∷ d ∷ g ∷ h ∷ []) (λ p q d g h. i ⊗ (d ⊗ (q ⊗ g ⊖ h)) ⊕ i ⊗ (d ⊗ (h ⊖ p ⊗ g)) ≐ g ⟸ (g · d ⊗ (q ⊖ p) ≐ i) ∷ []) refl
 
   pub recover_block : (u : Kind) (p q d g h : A) (a : Bool) → d * (q ∸ p) ≡ one
-      → let N = times R (half_m u) (mat u p q) in N a false * recover R u p q d g h false + N a true * recover R u p q d g h true ≡ h
+      → mix R (times R (half_m u) (mat u p q)) a (recover R u p q d g h false) (recover R u p q d g h true) ≡ h
   recover_block Lower p q d g h a = ring_by R (p ∷ q ∷ d ∷ g ∷ h ∷ []) (λ p q d g h. (i ⊗ q ⊕ o ⊗ o) ⊗ (g) ⊕ (i ⊗ (q ⊖ p) ⊕ o ⊗ p) ⊗ (d ⊗ (h ⊖ q ⊗ g)) ≐ h ⟸ (h ⊖ q ⊗ g · d ⊗ (q ⊖ p) ≐ i) ∷ []) refl
   recover_block Upper p q d g h a = ring_by R (p ∷ q ∷ d ∷ g ∷ h ∷ []) (λ p q d g h. (o ⊗ q ⊕ i ⊗ (p ⊖ q)) ⊗ (d ⊗ (p ⊗ g ⊖ h)) ⊕ (o ⊗ o ⊕ i ⊗ p) ⊗ (g) ≐ h ⟸ ((h ⊖ p ⊗ g) · d ⊗ (q ⊖ p) ≐ i) ∷ []) refl
   recover_block Sum p q d g h a = ring_by R (p ∷ q ∷ d ∷ g ∷ h ∷ []) (λ p q d g h. (i ⊗ p ⊕ i ⊗ o) ⊗ (d ⊗ (q ⊗ g ⊖ h)) ⊕ (i ⊗ o ⊕ i ⊗ q) ⊗ (d ⊗ (h ⊖ p ⊗ g)) ≐ h ⟸ (h · d ⊗ (q ⊖ p) ≐ i) ∷ []) refl

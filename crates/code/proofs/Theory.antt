@@ -1,9 +1,8 @@
 -- The column given by a set of halves: such files exist and agree in it, and it is what the recovery computes. Assumes nothing.
-use Rattle.std.proofs.Common.{◌≡◌, ℕ, zero, suc, ◌+◌, ◌-◌, ◌*◌, ◌/◌, ◌%◌, ◌^◌, ◌<◌, ◌≤◌, Bool, cond, eqb, ltb, ◌≢◌, [], ◌∷◌, sym, refl, ap, ◌∙◌, subst, ap₂, inl, inr, div-lt_iff_lt-mul, arith, le-ltb, lt-ltb, eq-eqb, ne_eqb}
+use Rattle.std.proofs.Common.{◌≡◌, ℕ, zero, suc, ◌+◌, ◌-◌, ◌*◌, ◌/◌, ◌%◌, ◌^◌, ◌<◌, ◌≤◌, Bool, if◌then◌else◌, nat_lt, ◌==◌, ◌≢◌, [], ◌∷◌, sym, refl, ap, ◌∙◌, subst, ap₂, inl, inr, div-lt_iff_lt-mul, arith, le-ltb, lt-ltb}
 use mathlib.Core.Path.{fun_ext}
 use native.Mathlib.Nat.{div-add-mod}
-use native.Mathlib.Decide.{ℕ_discrete}
-use Rattle.std.proofs.lemmas.Bool.{cases_lt, cases_eq, cond-true, cond-false}
+use Rattle.std.proofs.lemmas.Bool.{cases_order, cond-true, cond-false}
 use Rattle.field.specs.Ring.{Ring, Divides}
 use Rattle.field.specs.Symbols.{Symbols}
 use Rattle.field.proofs.Solver.{o, i, ◌⊕◌, ◌⊖◌, ◌≐◌, ◌⟸◌, ◌·◌, ring, ring_by}
@@ -12,11 +11,11 @@ use Rattle.code.specs.Codes.{Code, Proper, full, sum, kind, direction, shift, ei
 use Rattle.code.specs.Recovery.{seat, eigenvalue, recover, half_image, recovered}
 use Rattle.code.specs.Rows.{odd, digit, partner, lower, pair_of}
 use Rattle.code.proofs.Digits.{rows}
-use Rattle.code.proofs.Pairing.{idx_n, lower_partner, idx_lower, lower_idx, idx_partner, idx_below, idx_closed, row_of_pair, pair_below, lower_below}
+use Rattle.code.proofs.Pairing.{lower_partner, pair_lower, lower_pair, pair_partner, row_of_pair, pair_below, lower_below}
 use Rattle.code.proofs.Images.{image_same}
 use Rattle.code.proofs.Cuts.{cut, cut_in, cut_same, cut_after, cut_halved, cut_sum}
-use Rattle.code.proofs.Sums.{pick, pick_yes, pick_no, sum_ext, sum_more}
-use Rattle.code.proofs.Seats.{seat_other, other_seat, other_apart, other_most, seat_most}
+use Rattle.code.proofs.Sums.{if_same, if_other, but_ext, sum_more}
+use Rattle.code.proofs.Seats.{seat_most, seat_helper, helper_seat, helper_apart, helper_most}
 use Rattle.code.proofs.Halves as halves
 use Rattle.code.proofs.Files as files
 
@@ -25,6 +24,9 @@ number_of zero h = refl
 number_of (suc zero) h = refl
 number_of (suc (suc zero)) h = refl
 number_of (suc (suc (suc n))) h = absurd (omega arith)
+
+pub shift_below : {A : Type 0} (c : Code A) (b : ℕ) → 1 ≤ c.size → shift c b < c.size
+shift_below c b h = omega arith
 
 module _ {A : Type 0} (c : Code A) (ok : Proper c) where
   abbrev R : Ring A
@@ -47,19 +49,13 @@ module _ {A : Type 0} (c : Code A) (ok : Proper c) where
       let er : a % m ≡ b % m = omega arith in
       h (sym (div-add-mod a m) ∙ ap₂ (λ x y. m * x + y) es er ∙ div-add-mod b m)
 
-  pub direction_most : (b : ℕ) → direction c b ≤ m
-  direction_most b = let s : 1 ≤ m = ok.some in omega arith
-
-  pub shift_below : (b : ℕ) → shift c b < m
-  shift_below b = let s : 1 ≤ m = ok.some in omega arith
-
   same_if : (a b : A) → ◌∸◌ R a b ≡ R.zero → a ≡ b
   same_if a b = ring_by R (a ∷ b ∷ []) (λ a b. a ≐ b ⟸ (i · a ⊖ b ≐ o) ∷ []) refl
 
   -- the two eigenvalues of a direction differ
   pub gap : (x : ℕ) → ◌∸◌ R (eigen_q c x) (eigen_p c x) ≡ R.zero → ⊥
   gap x e =
-      let s : direction c x ≤ m = direction_most x in
+      let s : 1 ≤ m = ok.some in
       let w : 2 * direction c x ≡ 2 * direction c x - 1 = ok.mark_distinct (2 * direction c x) (2 * direction c x - 1) (omega arith) (omega arith) (omega arith) (omega arith) (same_if (eigen_q c x) (eigen_p c x) e) in
       omega arith
 
@@ -75,7 +71,7 @@ module _ {A : Type 0} (c : Code A) (ok : Proper c) where
 
   trim2 : (f : ℕ → ℕ → A) → (λ a. sum R n (λ b. T b (trim (f b)) a)) ≡ trim (parity2 c f)
   trim2 f =
-      ap {B = ℕ → A} (λ (X : ℕ → ℕ → A) a. sum R n (λ b. X b a)) (fun_ext λ b. cut_after R m (kind c b) (shift c b) (shift_below b) (eigen_p c b) (eigen_q c b) (f b))
+      ap {B = ℕ → A} (λ (X : ℕ → ℕ → A) a. sum R n (λ b. X b a)) (fun_ext λ b. cut_after R m (kind c b) (shift c b) (shift_below c b ok.some) (eigen_p c b) (eigen_q c b) (f b))
       ∙ cut_sum R m n (λ b. T b (f b))
 
   abbrev HalfAlike : (ℕ → A) → (ℕ → A) → Type 0
@@ -90,73 +86,79 @@ module _ {A : Type 0} (c : Code A) (ok : Proper c) where
 
     -- a half by pairs is a half by rows
     abbrev wide : (ℕ → A) → ℕ → A
-    wide G a = G (idx_n k a)
+    wide G a = G (pair_of k a)
+
+    abbrev wides : (ℕ → ℕ → A) → ℕ → ℕ → A
+    wides g b = wide (g (seat x b))
 
     abbrev join : (ℕ → A) → ℕ → A
     join C a = half R (kind c x) (C a) (C (a + 2 ^ k))
 
     widen : (C G : ℕ → A) → HalfAlike (half_for c x C) G → H (trim C) ≡ trim (wide G)
     widen C G h =
-        cut_halved R m (kind c x) k (shift_below x) C
-        ∙ cut_same R m (H C) (wide G) (λ a l. ap (join C) (sym (lower_idx k a)) ∙ h (idx_n k a) (idx_below m k a (shift_below x) l))
+        cut_halved R m (kind c x) k (shift_below c x ok.some) C
+        ∙ cut_same R m (H C) (wide G) (λ a l. ap (join C) (sym (lower_pair k a)) ∙ h (pair_of k a) (pair_below m k a (shift_below c x ok.some) l))
 
     narrow : (C G : ℕ → A) → H C ≡ wide G → HalfAlike (half_for c x C) G
-    narrow C G e j l = ap (join C) (sym (lower_partner k j)) ∙ ap (λ X. X (lower k j)) e ∙ ap G (idx_lower k j)
+    narrow C G e j l = ap (join C) (sym (lower_partner k j)) ∙ ap (λ X. X (lower k j)) e ∙ ap G (pair_lower k j)
 
-    abbrev Theory : (f g : ℕ → ℕ → A) (g1 g2 : ℕ → A) → Type 0
-    Theory = files.Halves R rows n (kind c) (shift c) apart (eigen_p c) (eigen_q c) x
+    abbrev boxes : files.Boxes A
+    boxes = record { n = n; kind = kind c; place = shift c; apart = apart; p = eigen_p c; q = eigen_q c }
+
+    abbrev lost : files.Lost R boxes
+    lost = record { x = x; inside = hx; d = d; inverse = inverse }
+
+    abbrev Theory : (f g : ℕ → ℕ → A) → Type 0
+    Theory = files.Halves R rows boxes x
 
     -- which column is whose
     column_data : (f : ℕ → ℕ → A) (b : ℕ) → b < n → column c f b ≡ f b
-    column_data f b l = cond-true (ltb b n) _ _ (lt-ltb b n l)
+    column_data f b l = cond-true (nat_lt b n) _ _ (lt-ltb b n l)
 
-    column_first : (f : ℕ → ℕ → A) → column c f n ≡ parity1 c f
-    column_first f = cond-false (ltb n n) _ _ (le-ltb n n (omega arith)) ∙ cond-true (eqb n n) _ _ (eq-eqb n n refl)
+    column_first : (f : ℕ → ℕ → A) (b : ℕ) → b ≡ n → column c f b ≡ parity1 c f
+    column_first f b e = cond-false (nat_lt b n) _ _ (le-ltb b n (omega arith)) ∙ if_same b n e _ _
 
-    column_second : (f : ℕ → ℕ → A) → column c f (suc n) ≡ parity2 c f
-    column_second f = cond-false (ltb (suc n) n) _ _ (le-ltb (suc n) n (omega arith)) ∙ cond-false (eqb (suc n) n) _ _ (ne_eqb (suc n) n (λ e. omega arith))
+    column_second : (f : ℕ → ℕ → A) (b : ℕ) → b ≡ suc n → column c f b ≡ parity2 c f
+    column_second f b e = cond-false (nat_lt b n) _ _ (le-ltb b n (omega arith)) ∙ if_other b n (λ o. omega arith) _ _
 
-    -- a helper's half, by its box
-    by_box : (f g : ℕ → ℕ → A) → HasHalves c x f g → (b : ℕ) → b ≢ x → b < suc (suc n) → HalfAlike (half_for c x (column c f b)) (g (seat x b))
-    by_box f g h b e l j lj =
-        ap (λ y. half_for c x (column c f y) j) (sym (other_seat x b e)) ∙ h (seat x b) (seat_most x b (suc n) (omega arith) e l) j lj
+    -- a helper's half, by its box and what column that box has
+    by_box : (f g : ℕ → ℕ → A) → HasHalves c x f g → (b : ℕ) (C : ℕ → A) → column c f b ≡ C → b ≢ x → b < suc (suc n) → H (trim C) ≡ trim (wides g b)
+    by_box f g h b C is e l = widen C (g (seat x b)) λ j lj.
+        ap (λ X. half_for c x X j) (sym is) ∙ ap (λ y. half_for c x (column c f y) j) (sym (helper_seat c x b e))
+        ∙ h (seat x b) (seat_most x b (suc n) (omega arith) e l) j lj
 
-    to_theory : (f g : ℕ → ℕ → A) → HasHalves c x f g
-        → Theory (λ b. trim (f b)) (λ b. trim (wide (g (seat x b)))) (trim (wide (g (seat x n)))) (trim (wide (g (seat x (suc n)))))
+    to_theory : (f g : ℕ → ℕ → A) → HasHalves c x f g → Theory (λ b. trim (f b)) (λ b. trim (wides g b))
     to_theory f g h = record {
-      each = λ b l e. widen (f b) (g (seat x b)) (subst (λ (C : ℕ → A). HalfAlike (half_for c x C) (g (seat x b))) (column_data f b l) (by_box f g h b e (omega arith)));
-      first = ap H (trim1 f) ∙ widen (parity1 c f) (g (seat x n)) (subst (λ (C : ℕ → A). HalfAlike (half_for c x C) (g (seat x n))) (column_first f) (by_box f g h n (λ e. omega arith) (omega arith)));
-      second = ap H (trim2 f) ∙ widen (parity2 c f) (g (seat x (suc n))) (subst (λ (C : ℕ → A). HalfAlike (half_for c x C) (g (seat x (suc n)))) (column_second f) (by_box f g h (suc n) (λ e. omega arith) (omega arith)));
+      each = λ b l e. by_box f g h b (f b) (column_data f b l) e (omega arith);
+      first = ap H (trim1 f) ∙ by_box f g h n (parity1 c f) (column_first f n refl) (λ e. omega arith) (omega arith);
+      second = ap H (trim2 f) ∙ by_box f g h (suc n) (parity2 c f) (column_second f (suc n) refl) (λ e. omega arith) (omega arith);
     }
 
-    from_theory : (f g : ℕ → ℕ → A) → Theory f (λ b. wide (g (seat x b))) (wide (g (seat x n))) (wide (g (seat x (suc n)))) → HasHalves c x f g
+    from_theory : (f g : ℕ → ℕ → A) → Theory f (wides g) → HasHalves c x f g
     from_theory f g t h l =
-        subst (λ y. HalfAlike (half_for c x (column c f (helper c x h))) (g y)) (seat_other x h) (at (helper c x h) (other_apart x h) (other_most x h (suc n) l))
+        subst (λ y. HalfAlike (half_for c x (column c f (helper c x h))) (g y)) (seat_helper c x h) (at (helper c x h) (helper_apart c x h) (helper_most c x h (suc n) l))
       where
+        has : (b : ℕ) (C : ℕ → A) → column c f b ≡ C → H C ≡ wides g b → HalfAlike (half_for c x (column c f b)) (g (seat x b))
+        has b C is e j l = ap (λ X. half_for c x X j) is ∙ narrow C (g (seat x b)) e j l
+
         at : (b : ℕ) → b ≢ x → b < suc (suc n) → HalfAlike (half_for c x (column c f b)) (g (seat x b))
         at b e l =
-            elim (cases_lt b n) [
-              | inl w ↦ subst (λ (C : ℕ → A). HalfAlike (half_for c x C) (g (seat x b))) (sym (column_data f b w)) (narrow (f b) (g (seat x b)) (t.each b w e))
-              | inr w ↦
-                  elim (cases_eq b n) [
-                    | inl v ↦ subst (λ b. HalfAlike (half_for c x (column c f b)) (g (seat x b))) (sym v)
-                        (subst (λ (C : ℕ → A). HalfAlike (half_for c x C) (g (seat x n))) (sym (column_first f)) (narrow (parity1 c f) (g (seat x n)) t.first))
-                    | inr v ↦ let u : b ≡ suc n = omega arith in subst (λ b. HalfAlike (half_for c x (column c f b)) (g (seat x b))) (sym u)
-                        (subst (λ (C : ℕ → A). HalfAlike (half_for c x C) (g (seat x (suc n)))) (sym (column_second f)) (narrow (parity2 c f) (g (seat x (suc n))) t.second))
-                  ]
+            elim (cases_order b n) [
+              | inl v ↦ has b (parity1 c f) (column_first f b v) (t.first ∙ ap (wides g) (sym v))
+              | inr (inl w) ↦ has b (f b) (column_data f b w) (t.each b w e)
+              | inr (inr w) ↦ let v : b ≡ suc n = omega arith in has b (parity2 c f) (column_second f b v) (t.second ∙ ap (wides g) (sym v))
             ]
 
     flat : (g : ℕ → A) → halves.Flat R rows k (wide g)
-    flat g b a = ap g (idx_partner k b a)
+    flat g b a = ap g (pair_partner k b a)
 
     -- the column that the theory gives from the halves g
     abbrev known : (ℕ → ℕ → A) → ℕ → A
-    known g =
-        files.given R rows n (kind c) (shift c) apart (eigen_p c) (eigen_q c) x hx d inverse (λ b. wide (g (seat x b))) (wide (g (seat x n))) (wide (g (seat x (suc n))))
+    known g = files.given R rows boxes lost (wides g)
 
     trimmed : (f g : ℕ → ℕ → A) → HasHalves c x f g
-        → trim (f x) ≡ files.given R rows n (kind c) (shift c) apart (eigen_p c) (eigen_q c) x hx d inverse (λ b. trim (wide (g (seat x b)))) (trim (wide (g (seat x n)))) (trim (wide (g (seat x (suc n)))))
-    trimmed f g h = files.agree R rows n (kind c) (shift c) apart (eigen_p c) (eigen_q c) x hx d inverse _ _ _ _ (to_theory f g h)
+        → trim (f x) ≡ files.given R rows boxes lost (λ b. trim (wides g b))
+    trimmed f g h = files.agree R rows boxes lost _ _ (to_theory f g h)
 
     below : (C E : ℕ → A) → trim C ≡ trim E → Alike c C E
     below C E e a l = sym (cut_in R m C a l) ∙ ap (λ X. X a) e ∙ cut_in R m E a l
@@ -165,11 +167,8 @@ module _ {A : Type 0} (c : Code A) (ok : Proper c) where
     agree g f f' h h' = below (f x) (f' x) (trimmed f g h ∙ sym (trimmed f' g h'))
 
     -- a file that has the halves, and whose lost column is the known one
-    found : (g : ℕ → ℕ → A)
-        → (f : ℕ → ℕ → A) × Theory f (λ b. wide (g (seat x b))) (wide (g (seat x n))) (wide (g (seat x (suc n))))
-    found g =
-        files.exist R rows n (kind c) (shift c) apart (eigen_p c) (eigen_q c) x hx d inverse (λ b. wide (g (seat x b))) (wide (g (seat x n))) (wide (g (seat x (suc n))))
-        (λ b. flat (g (seat x b))) (flat (g (seat x n))) (flat (g (seat x (suc n))))
+    found : (g : ℕ → ℕ → A) → (f : ℕ → ℕ → A) × Theory f (wides g)
+    found g = files.exist R rows boxes lost (wides g) (λ b. flat (g (seat x b)))
 
     exists : (g : ℕ → ℕ → A) → (f : ℕ → ℕ → A) × HasHalves c x f g
     exists g = ((found g).0, from_theory (found g).0 g (found g).1)
@@ -181,37 +180,20 @@ module _ {A : Type 0} (c : Code A) (ok : Proper c) where
     unfolding exists
     known_given g f h a l =
         agree g f (found g).0 h (exists g).1 a l
-        ∙ ap (λ X. X a) (files.agree R rows n (kind c) (shift c) apart (eigen_p c) (eigen_q c) x hx d inverse _ _ _ _ (found g).1)
+        ∙ ap (λ X. X a) (files.agree R rows boxes lost _ _ (found g).1)
 
     -- the known column is the recovered one
-    leave_out : (b : ℕ) (v w : A) → v ≡ w → pick (ℕ_discrete b x) R.zero v ≡ cond (eqb b x) R.zero w
-    leave_out b v w e =
-        elim (cases_eq b x) [
-          | inl h ↦ pick_yes (ℕ_discrete b x) R.zero v h ∙ sym (cond-true (eqb b x) R.zero w (eq-eqb b x h))
-          | inr h ↦ pick_no (ℕ_discrete b x) R.zero v h ∙ e ∙ sym (cond-false (eqb b x) R.zero w (ne_eqb b x h))
-        ]
-
-    image_half : (b : ℕ) (G : ℕ → A) (j : ℕ)
-        → files.known R rows n (kind c) (shift c) apart (eigen_p c) (eigen_q c) x hx d inverse b (wide G) (lower k j) ≡ half_image c x b G j
+    image_half : (b : ℕ) (G : ℕ → A) (j : ℕ) → files.known R rows boxes lost b (wide G) (lower k j) ≡ half_image c x b G j
     image_half b G j =
-        elim (cases_eq (shift c b) k) [
-          | inl h ↦
-              files.known_same R rows n (kind c) (shift c) apart (eigen_p c) (eigen_q c) x hx d inverse b h (wide G) (lower k j)
-              ∙ ap (λ y. R.times (eigenvalue R (kind c x) (kind c b) (eigen_p c b) (eigen_q c b)) (G y)) (idx_lower k j)
-              ∙ sym (cond-true (eqb (shift c b) k) _ _ (eq-eqb (shift c b) k h))
-          | inr h ↦
-              files.known_else R rows n (kind c) (shift c) apart (eigen_p c) (eigen_q c) x hx d inverse b h (wide G) (lower k j)
-              ∙ ap (λ (X : ℕ → A). image c b X (lower k j)) (fun_ext λ a. ap G (idx_closed k a))
-              ∙ sym (cond-false (eqb (shift c b) k) _ _ (ne_eqb (shift c b) k h))
-        ]
+        files.known_at R rows boxes lost b (wide G) (lower k j)
+        ∙ ap (λ v. if shift c b == k then R.times (eigenvalue R (kind c x) (kind c b) (eigen_p c b) (eigen_q c b)) (G v) else image c b (wide G) (lower k j)) (pair_lower k j)
 
     known_recovered : (g : ℕ → ℕ → A) (b : Bool) (j : ℕ) → known g (partner k b (lower k j)) ≡ recovered c x d g j b
     known_recovered g b j =
-        files.given_at R rows n (kind c) (shift c) apart (eigen_p c) (eigen_q c) x hx d inverse (λ b. wide (g (seat x b))) (wide (g (seat x n))) (wide (g (seat x (suc n))))
-        (λ b. flat (g (seat x b))) (flat (g (seat x n))) (flat (g (seat x (suc n)))) b (lower k j)
+        files.given_at R rows boxes lost (wides g) (λ b. flat (g (seat x b))) b (lower k j)
         ∙ ap₂ (λ y z. recover R (kind c x) (eigen_p c x) (eigen_q c x) d y z b)
-        (ap₂ (◌∸◌ R) (ap (g (seat x n)) (idx_lower k j)) (sum_ext R n _ _ (λ b l. leave_out b _ _ (ap (g (seat x b)) (idx_lower k j)))))
-        (ap₂ (◌∸◌ R) (ap (g (seat x (suc n))) (idx_lower k j)) (sum_ext R n _ _ (λ b l. leave_out b _ _ (image_half b (g (seat x b)) j))))
+        (ap₂ (◌∸◌ R) (ap (g (seat x n)) (pair_lower k j)) (but_ext R n x _ _ (λ b l a. ap (g (seat x b)) (pair_lower k j))))
+        (ap₂ (◌∸◌ R) (ap (g (seat x (suc n))) (pair_lower k j)) (but_ext R n x _ _ (λ b l a. image_half b (g (seat x b)) j)))
 
     -- so a column that is recovered pair by pair is the column given by the halves
     pub recovered_given : (g : ℕ → ℕ → A) (C : ℕ → A) → ((a : ℕ) → a < 2 ^ m → C a ≡ recovered c x d g (pair_of k a) (odd (digit k a))) → Given c x g C
@@ -236,7 +218,7 @@ proper Y m h k = record {
 -- a helper's half of the image depends on the pairs below 2 ^ (m - 1) alone
 pub half_image_same : {A : Type 0} (c : Code A) (x b : ℕ) (G H : ℕ → A) → shift c x < c.size → shift c b < c.size → ((j : ℕ) → j < 2 ^ (c.size - 1) → G j ≡ H j) → (j : ℕ) → j < 2 ^ (c.size - 1) → half_image c x b G j ≡ half_image c x b H j
 half_image_same c x b G H hx hb same j l =
-    ap₂ (cond (eqb (shift c b) (shift c x))) (ap (c.ring.times (eigenvalue c.ring (kind c x) (kind c b) (eigen_p c b) (eigen_q c b))) (same j l))
+    ap₂ (λ s t. if shift c b == shift c x then s else t) (ap (c.ring.times (eigenvalue c.ring (kind c x) (kind c b) (eigen_p c b) (eigen_q c b))) (same j l))
     (image_same c b (λ a. G (pair_of (shift c x) a)) (λ a. H (pair_of (shift c x) a)) hb (λ a k. same (pair_of (shift c x) a) (pair_below c.size (shift c x) a hx k)) (lower (shift c x) j) (lower_below c.size (shift c x) j hx l))
 
 -- differences, one term at a time

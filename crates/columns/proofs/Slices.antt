@@ -1,50 +1,38 @@
 -- What a slice's symbols stand for, as loops read and write them. Assumes nothing.
-use Rattle.std.proofs.Common.{◌≡◌, ℕ, zero, suc, ◌+◌, ◌*◌, ◌^◌, ◌<◌, ◌≤◌, ◌≢◌, List, [], ◌∷◌, ◌++◌, map, add-mul, one-mul, length, get_or, take, drop, set, sym, refl, ap, ◌∙◌, subst, inl, inr, arith, length-set, get_or-set_other, get_or-set_same}
-use lib.ListN.{length-map}
-use lib.Seq.{map-set}
-use Rattle.std.proofs.lemmas.List.{get_or-map, get_or-take, get_or-drop, get_or_append_left, get_or-append-add, map-append, length-append}
+use Rattle.std.proofs.Common.{◌≡◌, ℕ, ◌+◌, ◌-◌, ◌*◌, ◌^◌, ◌<◌, ◌≤◌, ◌≢◌, List, ◌++◌, map, length, slice_index_or, take, drop, slice_set, sym, ap, ◌∙◌, subst, inl, inr, arith, length-set, get_or-set_other, get_or-set_same}
+use Rattle.std.proofs.lemmas.List.{take-map, drop-map, map-set, length-map, get_or-map, get_or-take, get_or-drop, get_or_append_left, get_or-append-add, map-append, length-append}
 use Rattle.std.proofs.lemmas.Bool.{cases_eq}
 use Rattle.field.specs.Symbols.{Symbols}
 use Rattle.code.specs.Contents.{at, parts}
 use Rattle.code.specs.Rows.{lower, pair_of}
-use Rattle.code.proofs.Pairing.{row_cases, pair_lower, pair_upper}
-
-map_take : {X Z : Type 0} (f : X → Z) (n : ℕ) (xs : List X) → map f (take n xs) ≡ take n (map f xs)
-map_take f zero xs = refl
-map_take f (suc n) [] = refl
-map_take f (suc n) (x ∷ xs) = ap (λ ys. f x ∷ ys) (map_take f n xs)
-
-map_drop : {X Z : Type 0} (f : X → Z) (n : ℕ) (xs : List X) → map f (drop n xs) ≡ drop n (map f xs)
-map_drop f zero xs = refl
-map_drop f (suc n) [] = refl
-map_drop f (suc n) (x ∷ xs) = map_drop f n xs
+use Rattle.code.proofs.Pairing.{row_cases, pair_lower, pair_upper, pair_below}
 
 module _ (Y : Symbols) {S : Type 0} (value : S → Y.Symbol) where
   -- an element that is read, by its place or by its index
-  pub element : (xs : List S) (i : ℕ) (d : S) → i < length xs → value (get_or xs i d) ≡ at Y value xs i
+  pub element : (xs : List S) (i : ℕ) (d : S) → i < length xs → value (slice_index_or xs i d) ≡ at Y value xs i
   element xs i d h = sym (get_or-map value xs i d Y.ring.zero h)
 
-  pub read : (xs : List S) (i : ℕ) (r : S) → i < length xs → r ≡ get_or xs i r → value r ≡ at Y value xs i
+  pub read : (xs : List S) (i : ℕ) (r : S) → i < length xs → r ≡ slice_index_or xs i r → value r ≡ at Y value xs i
   read xs i r h e = ap value e ∙ element xs i r h
 
   -- an element that is written, and the others
-  pub written : (xs : List S) (i : ℕ) (r : S) → i < length xs → at Y value (set xs i r) i ≡ value r
+  pub written : (xs : List S) (i : ℕ) (r : S) → i < length xs → at Y value (slice_set xs i r) i ≡ value r
   written xs i r h =
       let l : i < length (map value xs) = simp length-map h in
-      ap (λ ys. get_or ys i Y.ring.zero) (map-set value xs i r) ∙ get_or-set_same (map value xs) i (value r) Y.ring.zero l
+      ap (λ ys. slice_index_or ys i Y.ring.zero) (map-set value xs i r) ∙ get_or-set_same (map value xs) i (value r) Y.ring.zero l
 
-  pub written_else : (xs : List S) (i k : ℕ) (r : S) → k ≢ i → at Y value (set xs i r) k ≡ at Y value xs k
+  pub written_else : (xs : List S) (i k : ℕ) (r : S) → k ≢ i → at Y value (slice_set xs i r) k ≡ at Y value xs k
   written_else xs i k r n =
-      ap (λ ys. get_or ys k Y.ring.zero) (map-set value xs i r) ∙ get_or-set_other (map value xs) i k (value r) Y.ring.zero n
+      ap (λ ys. slice_index_or ys k Y.ring.zero) (map-set value xs i r) ∙ get_or-set_other (map value xs) i k (value r) Y.ring.zero n
 
   -- a part that is lent on: part b of n symbols
   pub part : (xs : List S) (n b s k : ℕ) → s ≡ b * n → k ≡ n → (a : ℕ) → a < n → at Y value (take k (drop s xs)) a ≡ parts Y value n xs b a
   part xs n b s k start size a l =
       let h : a < k = omega arith in
-      ap (λ ys. get_or ys a Y.ring.zero) (map_take value k (drop s xs) ∙ ap (take k) (map_drop value s xs))
+      ap (λ ys. slice_index_or ys a Y.ring.zero) (sym (take-map value k (drop s xs)) ∙ ap (take k) (sym (drop-map value s xs)))
       ∙ get_or-take k (drop s (map value xs)) a Y.ring.zero h
       ∙ get_or-drop s (map value xs) a Y.ring.zero
-      ∙ ap (λ i. get_or (map value xs) (i + a) Y.ring.zero) start
+      ∙ ap (λ i. slice_index_or (map value xs) (i + a) Y.ring.zero) start
 
   -- what is left of a slice after k parts of n symbols
   pub record Left (n k : ℕ) (xs rest : List S) : Type 0 where
@@ -57,54 +45,62 @@ module _ (Y : Symbols) {S : Type 0} (value : S → Y.Symbol) where
     left_part a h =
         let long : a < length (map value x) = simp length-map (omega arith) in
         sym (get_or_append_left (map value x) (map value after) Y.ring.zero a long)
-        ∙ ap (λ ys. get_or ys a Y.ring.zero) (sym (map-append value x after) ∙ ap (map value) (sym cut)) ∙ l.here a
+        ∙ ap (λ ys. slice_index_or ys a Y.ring.zero) (sym (map-append value x after) ∙ ap (map value) (sym cut)) ∙ l.here a
 
     pub left_more : Left n (k + 1) xs after
     left_more =
-        let next : (k + 1) * n ≡ k * n + n = add-mul k 1 n ∙ ap (λ m. k * n + m) (one-mul n) in
         let whole : length (map value x) ≡ n = simp length-map size in
         let sides : length rest ≡ length x + length after = ap length cut ∙ length-append x after in
         record {
           here = λ a.
               sym (get_or-append-add (map value x) (map value after) a Y.ring.zero)
-              ∙ (λ i. get_or (sym (map-append value x after) i) (whole i + a) Y.ring.zero)
-              ∙ ap (λ ys. at Y value ys (n + a)) (sym cut) ∙ l.here (n + a) ∙ ap (at Y value xs) (omega (arith, next));
-          long = omega (arith, next, sides, l.long);
+              ∙ (λ i. slice_index_or (sym (map-append value x after) i) (whole i + a) Y.ring.zero)
+              ∙ ap (λ ys. at Y value ys (n + a)) (sym cut) ∙ l.here (n + a) ∙ ap (at Y value xs) (omega arith);
+          long = omega (arith, sides, l.long);
         }
 
-  -- the rows below k hold f, the others what they held
-  pub record Rowwise (f : ℕ → Y.Symbol) (before : List S) (k : ℕ) (xs : List S) : Type 0 where
-    pub done : (a : ℕ) → a < k → a < length before → at Y value xs a ≡ f a
-    pub left : (a : ℕ) → k ≤ a → at Y value xs a ≡ at Y value before a
+  -- the rows whose place is below n hold f, the others what they held
+  pub record Written (place : ℕ → ℕ) (f : ℕ → Y.Symbol) (before : List S) (n : ℕ) (xs : List S) : Type 0 where
+    pub done : (a : ℕ) → place a < n → a < length before → at Y value xs a ≡ f a
+    pub left : (a : ℕ) → n ≤ place a → at Y value xs a ≡ at Y value before a
 
-  pub rowwise_more : (f : ℕ → Y.Symbol) (before : List S) (k : ℕ) (xs : List S) (r : S) → k < length xs → value r ≡ f k → Rowwise f before k xs → Rowwise f before (k + 1) (set xs k r)
+  -- row by row, and pair by pair along the digit k
+  abbrev pub Rowwise : (ℕ → Y.Symbol) → List S → ℕ → List S → Type 0
+  Rowwise = Written (λ a. a)
+
+  abbrev pub Pairwise : ℕ → (ℕ → Y.Symbol) → List S → ℕ → List S → Type 0
+  Pairwise k = Written (pair_of k)
+
+  pub rowwise_more : (f : ℕ → Y.Symbol) (before : List S) (k : ℕ) (xs : List S) (r : S) → k < length xs → value r ≡ f k → Rowwise f before k xs → Rowwise f before (k + 1) (slice_set xs k r)
   rowwise_more f before k xs r h e w = record {
     done = λ a l b. elim (cases_eq a k) [
-      | inl z ↦ subst (λ n. at Y value (set xs k r) n ≡ f n) (sym z) (written xs k r h ∙ e)
+      | inl z ↦ subst (λ n. at Y value (slice_set xs k r) n ≡ f n) (sym z) (written xs k r h ∙ e)
       | inr z ↦ written_else xs k a r z ∙ w.done a (omega arith) b
     ];
     left = λ a l. written_else xs k a r (λ z. omega arith) ∙ w.left a (omega arith);
   }
 
-  -- the rows of the pairs below j, along the digit k, hold f, the others what they held
-  pub record Pairwise (k : ℕ) (f : ℕ → Y.Symbol) (before : List S) (j : ℕ) (xs : List S) : Type 0 where
-    pub done : (a : ℕ) → pair_of k a < j → a < length before → at Y value xs a ≡ f a
-    pub left : (a : ℕ) → j ≤ pair_of k a → at Y value xs a ≡ at Y value before a
+  -- once all pairs are written
+  pub pairwise_all : (m k digits n : ℕ) (f : ℕ → Y.Symbol) (before xs : List S) → digits ≡ m → 2 ^ (digits - 1) ≤ n → k < m → 2 ^ m ≤ length before
+      → Pairwise k f before n xs → (a : ℕ) → a < 2 ^ m → at Y value xs a ≡ f a
+  pairwise_all m k digits n f before xs size all h long w a l =
+      let below : pair_of k a < 2 ^ (digits - 1) = rw size (pair_below m k a h l) in
+      w.done a (omega arith) (omega arith)
 
   -- the two rows of pair j are written
   module _ (k j low high : ℕ) (el : low ≡ lower k j) (eh : high ≡ lower k j + 2 ^ k) (rising : low < high) (xs : List S) (s t : S) (h : high < length xs) where
     abbrev both : List S
-    both = set (set xs low s) high t
+    both = slice_set (slice_set xs low s) high t
 
     at_low : at Y value both low ≡ value s
-    at_low = written_else (set xs low s) high low t (λ e. omega arith) ∙ written xs low s (omega arith)
+    at_low = written_else (slice_set xs low s) high low t (λ e. omega arith) ∙ written xs low s (omega arith)
 
     at_high : at Y value both high ≡ value t
-    at_high = let l : high < length (set xs low s) = simp length-set h in written (set xs low s) high t l
+    at_high = let l : high < length (slice_set xs low s) = simp length-set h in written (slice_set xs low s) high t l
 
     at_else : (a : ℕ) → (pair_of k a ≡ j → ⊥) → at Y value both a ≡ at Y value xs a
     at_else a n =
-        written_else (set xs low s) high a t (λ e. n (ap (pair_of k) (e ∙ eh) ∙ pair_upper k j))
+        written_else (slice_set xs low s) high a t (λ e. n (ap (pair_of k) (e ∙ eh) ∙ pair_upper k j))
         ∙ written_else xs low a s (λ e. n (ap (pair_of k) (e ∙ el) ∙ pair_lower k j))
 
     pub pairwise_more : (n : ℕ) → n ≡ j + 1 → (f : ℕ → Y.Symbol) (before : List S) → value s ≡ f low → value t ≡ f high → Pairwise k f before j xs → Pairwise k f before n both

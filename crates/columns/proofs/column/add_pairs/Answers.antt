@@ -1,11 +1,12 @@
-use Rattle.std.proofs.Common.{◌≡◌, ◌-◌, ◌^◌, ◌<◌, length, ap, ◌∙◌, ap₂, arith, length-set}
+use Rattle.std.proofs.Common.{◌<◌, length, ap, ◌∙◌, ap₂, arith, length-set}
 use Rattle.code.specs.Codes.{full, shift}
 use Rattle.code.specs.Contents.{at}
 use Rattle.code.specs.Rows.{pair_of}
 use Rattle.code.proofs.Images.{image_at_low, image_at_high}
-use Rattle.code.proofs.Pairing.{pair_lower, pair_upper, pair_below}
-use Rattle.boxes.proofs.Weights.{rows_named, shift_less}
-use Rattle.columns.proofs.Slices.{pairwise_more, read, written_else}
+use Rattle.code.proofs.Pairing.{pair_lower, pair_upper}
+use Rattle.code.proofs.Theory.{shift_below}
+use Rattle.boxes.proofs.Weights.{rows_named}
+use Rattle.columns.proofs.Slices.{pairwise_more, pairwise_all, read, written_else}
 use Rattle.columns.proofs.column.add_pairs.Goals as goal
 
 pub loop-low-preserved : goal.loop-low-preserved
@@ -41,10 +42,7 @@ loop-low-preserved g c =
 
 pub returns : goal.returns
 returns g c =
-    λ a l.
     let m = c.args.cabinet.now.size.m in
     let k = shift (full g.F.Sums.symbols m) c.args.b in
     let inv = c.loop-low.invariant in
-    let all : 2 ^ (c.loop-low.low-iterator.digit.now.digits - 1) ≡ 2 ^ (m - 1) = ap (λ n. 2 ^ (n - 1)) inv.0 in
-    let below : pair_of k a < 2 ^ (m - 1) = pair_below m k a (shift_less m c.args.b c.args.cabinet.now.size.some) l in
-    inv.2.done a (omega (arith, c.in-None.ensures.steps.1.0, all, below)) (omega arith)
+    pairwise_all g.F.Sums.symbols g.F.Sums.value m k _ _ _ _ _ inv.0 c.in-None.ensures.steps.1.0 (shift_below (full g.F.Sums.symbols m) c.args.b c.args.cabinet.now.size.some) (omega arith) inv.2

@@ -1,19 +1,16 @@
-use Rattle.std.proofs.Common.{◌≡◌, ℕ, suc, ◌+◌, ◌-◌, ◌*◌, ◌^◌, ◌<◌, ◌≤◌, cond, eqb, length, sym, ap, ◌∙◌, arith}
+use Rattle.std.proofs.Common.{◌≡◌, ℕ, suc, ◌+◌, ◌-◌, ◌*◌, ◌^◌, ◌<◌, if◌then◌else◌, ◌==◌, length, sym, ap, ◌∙◌, arith}
+use Rattle.std.proofs.lemmas.Nat.{mul-add-lt}
 use Rattle.code.specs.Codes.{full}
 use Rattle.code.specs.Contents.{at, parts}
 use Rattle.code.specs.Recovery.{seat, half_image}
 use Rattle.code.proofs.Seats.{seat_above}
 use Rattle.columns.proofs.Slices.{element}
 use Rattle.code.proofs.Theory.{less_none, less_more}
-use Rattle.boxes.proofs.Weights.{part_fits}
 use Rattle.columns.proofs.recovery.Halves.of_lost.Goals as goal
 
 -- part h of the 3m + 1 halves has a number j
 within : (m h pairs j len : ℕ) → h < 3 * m + 1 → pairs ≡ 2 ^ (m - 1) → j < 2 ^ (m - 1) → len ≡ (3 * m + 1) * 2 ^ (m - 1) → h * pairs + j < len
-within m h pairs j len l is lj e =
-    let fits : h * pairs + pairs ≤ (3 * m + 1) * pairs = part_fits h (3 * m + 1) pairs l in
-    let same : (3 * m + 1) * pairs ≡ (3 * m + 1) * 2 ^ (m - 1) = ap (λ n. (3 * m + 1) * n) is in
-    omega arith
+within m h pairs j len l is lj e = rw is (omega (arith, mul-add-lt h (2 ^ (m - 1)) j (3 * m + 1) l lj))
 
 pub loop-b-init : goal.loop-b-init
 loop-b-init g c =
@@ -43,6 +40,6 @@ loop-b-preserved g c =
     let x = c.args.self.now.lost in
     let j = c.args.j in
     let halves = parts Y g.F.Sums.value (2 ^ (m - 1)) c.args.self.now.numbers.now in (
-      less_more R _ _ _ c.loop-b.b (λ b. cond (eqb b x) R.zero (halves (seat x b) j)) c.subtract_box-left.ensures.first c.loop-b.invariant.0,
-      less_more R _ _ _ c.loop-b.b (λ b. cond (eqb b x) R.zero (half_image (full Y m) x b (halves (seat x b)) j)) c.subtract_box-left.ensures.second c.loop-b.invariant.1,
+      less_more R _ _ _ c.loop-b.b (λ b. if b == x then R.zero else halves (seat x b) j) c.subtract_box-left.ensures.first c.loop-b.invariant.0,
+      less_more R _ _ _ c.loop-b.b (λ b. if b == x then R.zero else half_image (full Y m) x b (halves (seat x b)) j) c.subtract_box-left.ensures.second c.loop-b.invariant.1,
     )

@@ -1,11 +1,12 @@
-use Rattle.std.proofs.Common.{◌≡◌, ◌+◌, ◌-◌, ◌^◌, ◌<◌, true, false, sym, ap, ◌∙◌, arith}
+use Rattle.std.proofs.Common.{◌≡◌, ◌+◌, ◌-◌, ◌^◌, true, false, sym, ap, ◌∙◌, arith}
 use Rattle.code.specs.Codes.{full, shift}
 use Rattle.code.specs.Contents.{parts}
 use Rattle.code.specs.Recovery.{lost_half, lost_image, recover, recovered}
 use Rattle.code.specs.Rows.{odd, digit, pair_of}
-use Rattle.code.proofs.Pairing.{pair_lower, pair_upper, pair_below, digit_lower, digit_upper}
-use Rattle.columns.proofs.Slices.{pairwise_more}
-use Rattle.boxes.proofs.Weights.{rows_named, shift_less}
+use Rattle.code.proofs.Pairing.{pair_lower, pair_upper, digit_lower, digit_upper}
+use Rattle.code.proofs.Theory.{shift_below}
+use Rattle.columns.proofs.Slices.{pairwise_more, pairwise_all}
+use Rattle.boxes.proofs.Weights.{rows_named}
 use Rattle.columns.proofs.recovery.Halves.write_pairs.Goals as goal
 
 pub loop-j-preserved : goal.loop-j-preserved
@@ -45,10 +46,7 @@ loop-j-preserved g c =
 
 pub returns : goal.returns
 returns g c =
-    λ a l.
     let m = c.args.self.now.cabinet.size.m in
     let k = shift (full g.F.Sums.symbols m) c.args.self.now.lost in
     let inv = c.loop-j.invariant in
-    let all : 2 ^ (c.loop-j.j-iterator.iter.digit.now.digits - 1) ≡ 2 ^ (m - 1) = ap (λ n. 2 ^ (n - 1)) inv.0 in
-    let below : pair_of k a < 2 ^ (m - 1) = pair_below m k a (shift_less m c.args.self.now.lost c.args.self.now.cabinet.size.some) l in
-    inv.3.done a (omega (arith, c.in-None.ensures.steps.0.1.0, all, below)) (omega arith)
+    pairwise_all g.F.Sums.symbols g.F.Sums.value m k _ _ _ _ _ inv.0 c.in-None.ensures.steps.0.1.0 (shift_below (full g.F.Sums.symbols m) c.args.self.now.lost c.args.self.now.cabinet.size.some) (omega arith) inv.3
