@@ -11,7 +11,7 @@ pub fn power(k: usize) -> usize
     1 << (k % 64)
 }
 
-// The same for a k that a size leaves. Each power promises its two bounds: sums
+// The same for a k of at most 6. Each power promises its two bounds: sums
 // and products of it need them, and no type holds a bare power.
 pub(crate) fn small_power(k: usize) -> usize
     requires { k ≤ 6 }
@@ -87,7 +87,7 @@ impl Digit {
         ensures { result ≡ partner self.now.place false row }
     {
         let weight = self.weight();
-        // The test of `is_upper`, seen: the check finds in it that the row has the weight.
+        // `is_upper` written out: from it the check finds that the row is at least the weight.
         if row / weight % 2 == 1 {
             row - weight
         } else {

@@ -55,7 +55,7 @@ pub(crate) fn take_half<F: Sums>(size: &Size, x: usize, column: &[F], half: &mut
 {
     let kind = kind_at(size.m, x);
     let digit = size.digit(x);
-    // By pairs' numbers, for the same reason.
+    // By the pairs' numbers: after a `zip` with `iter_mut` nothing would be known of what was written.
     for (j, number) in half.iter_mut().enumerate() {
         let (low, high) = digit.pair(j).unwrap();
         *number = kind.half(column[low], column[high]);

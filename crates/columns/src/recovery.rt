@@ -46,8 +46,8 @@ struct Halves<'a, F: Sums> {
     ghost whole: { length numbers.now ≡ (3 * cabinet.size.m + 1) * 2 ^ (cabinet.size.m - 1) },
 }
 
-// Where a function asks that there is a pair j, or for a half's length: a type for
-// j or for the slice would hold that bound alone.
+// Numbers of pairs and the lengths of halves and columns are asked for: a type for
+// one would hold that bound alone (see column.rt).
 impl<'a, F: Sums> Halves<'a, F> {
     // Those sent for the lost box, from 1 to 3m.
     fn new(cabinet: Cabinet<F>, lost: usize, numbers: &'a [F]) -> Self

@@ -61,7 +61,7 @@ pub trait Sums: Copy {
     }
 
     // Yes exactly for the same symbol. A law on `==` could not say so: it would
-    // have to hold of 16-bit integers that no program holds.
+    // have to hold of integers that no program holds.
     final fn same(self, other: Self) -> bool
         ensures yes { IsTrue result → self ≡ other }
         ensures found { value self ≡ value other → IsTrue result }

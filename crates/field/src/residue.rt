@@ -1,4 +1,4 @@
-// The field of the integers modulo a prime, one text for every prime.
+// The field of the integers modulo a prime, one text for every prime below 2^31.
 #![tactic(auto, using(crate::proofs::Residues::residue_again, crate::proofs::Residues::settled))]
 
 ghost use Rattle.std.specs.Prelude.{◌≡◌, ℕ, ◌-◌, ◌^◌, ◌<◌, ◌≤◌};

@@ -68,7 +68,7 @@ pub fn sized(m: usize) -> Result<(), Refusal>
     Ok(())
 }
 
-// The questions below stand beside the checks for callers that decline nothing by them.
+// Public questions that stand as they were promised; the check beside each asks it.
 
 // Does the field have fewer than 2m marks?
 pub fn few_marks<F: Sums>(m: usize) -> bool
