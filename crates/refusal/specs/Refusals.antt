@@ -1,5 +1,5 @@
 -- Why a call is declined. Assumes nothing.
-use Rattle.std.specs.Prelude.{ℕ, ◌*◌, Bool, not, ◌||◌, List, [], ◌∷◌, Some, None, Ok, Err, Option, Result, ◌==◌, if◌then◌else◌, nat_lt}
+use Rattle.std.specs.Prelude.{ℕ, codes, ◌*◌, Bool, not, ◌||◌, List, [], ◌∷◌, Some, None, Ok, Err, Option, Result, ◌==◌, if◌then◌else◌, nat_lt}
 use Rattle.std.specs.List.{list_any}
 use Rattle.field.specs.Symbols.{Symbols}
 use Rattle.refusal.specs.declared.Refusal.{Refusal}
@@ -12,6 +12,14 @@ number Marks = 3
 number Length = 5
 number NoBox = 6
 number Parity = 11
+
+-- the text that each is printed as
+abbrev pub text : Refusal → List ℕ
+text Size = codes "the size is outside 1 to 6"
+text Marks = codes "the field has too few marks"
+text Length = codes "a buffer has the wrong length"
+text NoBox = codes "there is no box of that number"
+text Parity = codes "the box is a parity box"
 
 -- a reason: the refusal, where it fits
 abbrev pub Reason : Type 0

@@ -1,8 +1,8 @@
 // Why a call is declined.
 #![tactic(auto)]
 
-ghost use Rattle.std.specs.Prelude.{◌≡◌, ℕ, ◌*◌, ◌≤◌, ◌<◌, ◌||◌, nat_lt};
-ghost use Rattle.refusal.specs.Refusals.{any_wrong, earliest as first, few_marks as too_few_marks, no_box, number as number_of, parity_box, refusal, wrong_lengths as wrong_length, wrong_size};
+ghost use Rattle.std.specs.Prelude.{◌≡◌, ℕ, ◌*◌, ◌≤◌, ◌<◌, ◌||◌, nat_lt, Some};
+ghost use Rattle.refusal.specs.Refusals.{any_wrong, earliest as first, few_marks as too_few_marks, no_box, number as number_of, parity_box, refusal, text, wrong_lengths as wrong_length, wrong_size};
 
 use field::Sums;
 use std::error::Error;
@@ -32,6 +32,8 @@ impl Refusal {
 }
 
 impl fmt::Display for Refusal {
+    ghost output = { λ why. Some (text why) };
+
     fn fmt<W: fmt::Write>(&self, f: &mut fmt::Formatter<W>) -> fmt::Result {
         f.write_str(match self {
             Refusal::Size => "the size is outside 1 to 6",
