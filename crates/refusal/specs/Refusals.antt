@@ -3,7 +3,7 @@ use Rattle.std.specs.Prelude.{ℕ, codes, ◌*◌, Bool, not, ◌||◌, List, []
 use Rattle.std.specs.List.{list_any}
 use Rattle.field.specs.Symbols.{Symbols}
 use Rattle.refusal.specs.declared.Refusal.{Refusal}
-use Rattle.refusal.specs.declared.Refusal.TheVariants.{Size, Marks, Length, NoBox, Parity}
+use Rattle.refusal.specs.declared.Refusal.TheVariants.{Size, Marks, Length, NoBox, ManyOut, Parity, Helper, Unheard}
 
 -- the number of each refusal
 abbrev pub number : Refusal → ℕ
@@ -11,7 +11,10 @@ number Size = 2
 number Marks = 3
 number Length = 5
 number NoBox = 6
+number ManyOut = 10
 number Parity = 11
+number Helper = 12
+number Unheard = 13
 
 -- the text that each is printed as
 abbrev pub text : Refusal → List ℕ
@@ -19,7 +22,10 @@ text Size = codes "the size is outside 1 to 6"
 text Marks = codes "the field has too few marks"
 text Length = codes "a buffer has the wrong length"
 text NoBox = codes "there is no box of that number"
+text ManyOut = codes "three or more boxes are out"
 text Parity = codes "the box is a parity box"
+text Helper = codes "the helper is the lost box, or has been heard already"
+text Unheard = codes "a helper has not been heard yet"
 
 -- a reason: the refusal, where it fits
 abbrev pub Reason : Type 0

@@ -18,8 +18,14 @@ pub enum Refusal {
     Length = 5,
     // There is no box of that number.
     NoBox = 6,
+    // Three or more boxes are out.
+    ManyOut = 10,
     // A data box is wanted, and the box is a parity box.
     Parity = 11,
+    // The helper is the lost box, or has been heard already.
+    Helper = 12,
+    // A helper has not been heard yet.
+    Unheard = 13,
 }
 
 impl Refusal {
@@ -40,7 +46,10 @@ impl fmt::Display for Refusal {
             Refusal::Marks => "the field has too few marks",
             Refusal::Length => "a buffer has the wrong length",
             Refusal::NoBox => "there is no box of that number",
+            Refusal::ManyOut => "three or more boxes are out",
             Refusal::Parity => "the box is a parity box",
+            Refusal::Helper => "the helper is the lost box, or has been heard already",
+            Refusal::Unheard => "a helper has not been heard yet",
         })
     }
 }
