@@ -8,6 +8,9 @@ pub mod Matrices
 pub mod Operators
 pub mod Pairing
 pub mod Seats
+pub mod Solved
 pub mod Spare
 pub mod Sums
 pub mod Theory
+pub mod Undoing
+pub mod Undone

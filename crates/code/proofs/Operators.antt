@@ -3,7 +3,7 @@
 use Rattle.std.proofs.Common.{◌≡◌, ℕ, Bool, true, false, ◌≢◌, [], ◌∷◌, sym, refl, ◌∙◌, ap₂}
 use mathlib.Core.Path.{fun_ext}
 use Rattle.field.specs.Ring.{Ring}
-use Rattle.field.proofs.Solver.{◌⊕◌, ◌⊗◌, ◌≐◌, ring}
+use Rattle.field.proofs.Solver.{◌⊕◌, ◌⊗◌, ◌⊖◌, ◌≐◌, ring}
 use Rattle.code.proofs.Digits.{Digits}
 
 -- a matrix: which row of it, then which column
@@ -21,6 +21,7 @@ module _ {A Row : Type 0} (R : Ring A) (D : Digits Row) where
   infixl 60 ◌+◌
   infixl 70 ◌*◌
   infixl 60 ◌⊞◌
+  infixl 60 ◌⊟◌
   open R use {zero as nil, one, plus as ◌+◌, times as ◌*◌, negative as neg}
   open D use {bit, to}
 
@@ -31,6 +32,9 @@ module _ {A Row : Type 0} (R : Ring A) (D : Digits Row) where
   abbrev pub ◌⊞◌ : (Row → A) → (Row → A) → Row → A
   (C ⊞ E) a = C a + E a
 
+  abbrev pub ◌⊟◌ : (Row → A) → (Row → A) → Row → A
+  (C ⊟ E) a = C a + neg (E a)
+
   abbrev pub scale : A → (Row → A) → Row → A
   scale x C a = x * C a
 
@@ -38,6 +42,11 @@ module _ {A Row : Type 0} (R : Ring A) (D : Digits Row) where
   op_add k M C E = fun_ext λ a.
       ring R (M (bit k a) false ∷ M (bit k a) true ∷ C (to k false a) ∷ C (to k true a) ∷ E (to k false a) ∷ E (to k true a) ∷ [])
       (λ m n c d e f. m ⊗ (c ⊕ e) ⊕ n ⊗ (d ⊕ f) ≐ (m ⊗ c ⊕ n ⊗ d) ⊕ (m ⊗ e ⊕ n ⊗ f)) refl
+
+  pub op_sub : (k : ℕ) (M : Mat A) (C E : Row → A) → Op k M (C ⊟ E) ≡ Op k M C ⊟ Op k M E
+  op_sub k M C E = fun_ext λ a.
+      ring R (M (bit k a) false ∷ M (bit k a) true ∷ C (to k false a) ∷ C (to k true a) ∷ E (to k false a) ∷ E (to k true a) ∷ [])
+      (λ m n c d e f. m ⊗ (c ⊖ e) ⊕ n ⊗ (d ⊖ f) ≐ (m ⊗ c ⊕ n ⊗ d) ⊖ (m ⊗ e ⊕ n ⊗ f)) refl
 
   -- along one digit, one after the other is the product
   op_at_to : (k : ℕ) (N : Mat A) (C : Row → A) (b : Bool) (a : Row) → Op k N C (to k b a) ≡ mix R N b (C (to k false a)) (C (to k true a))
