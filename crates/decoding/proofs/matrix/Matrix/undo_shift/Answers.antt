@@ -1,5 +1,5 @@
 use Rattle.std.proofs.Common.{sym, ◌∙◌, refl}
-use Rattle.solving.proofs.matrix.Matrix.undo_shift.Goals as goal
+use Rattle.decoding.proofs.matrix.Matrix.undo_shift.Goals as goal
 
 pub returns : goal.returns
 returns g c = (

@@ -4,7 +4,7 @@ use Rattle.field.specs.Ring.{Ring}
 use Rattle.code.specs.Blocks.{◌∸◌}
 use Rattle.code.specs.Decoding.{Matrix, undo_shift, undo_difference}
 use Rattle.code.specs.declared.Kind.{Kind}
-use Rattle.solving.specs.declared.matrix.Matrix.{Matrix as Held}
+use Rattle.decoding.specs.declared.matrix.Matrix.{Matrix as Held}
 
 -- the entries of a matrix that is held row by row
 abbrev pub entries : {S A : Type 0} → (S → A) → Held S → Matrix A

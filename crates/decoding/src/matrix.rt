@@ -2,7 +2,7 @@
 ghost use Rattle.std.specs.Prelude.{◌≡◌, true, false, MatchOption};
 ghost use Rattle.code.specs.Blocks.{◌∸◌};
 ghost use Rattle.code.specs.Decoding.{block_matrix, from_eigen, to_eigen, unit};
-ghost use Rattle.solving.specs.Matrices.{applied, determinant as determinant_of, entries, Entrywise, UndoesDifference, UndoesShift};
+ghost use Rattle.decoding.specs.Matrices.{applied, determinant as determinant_of, entries, Entrywise, UndoesDifference, UndoesShift};
 
 use code::{Block, Kind};
 use field::{Quotients, Sums};
