@@ -17,7 +17,7 @@ use Rattle.code.proofs.Operators.{mix, times}
 use Rattle.code.proofs.Pairing.{pair_lower, pair_partner, lower_below}
 use Rattle.code.proofs.Seats.{seat_apart, seat_helper, helper_apart, helper_most}
 use Rattle.code.proofs.Sums.{but, if_other, left_out, but_ext, sum_but}
-use Rattle.code.proofs.Theory.{gap, shift_below, restorable, recovered_given}
+use Rattle.code.proofs.Theory.{gap_inverse, shift_below, restorable, recovered_given}
 
 module _ {A : Type 0} (R : Ring A) where
   -- a sum in which one term is raised
@@ -167,5 +167,5 @@ module _ {A : Type 0} (c : Code A) (x : ℕ) (hx : x < data_boxes c) where
 -- whichever number is left out of the halves, every file has another that differs in the lost column
 pub spare : {A : Type 0} (c : Code A) → Proper c → Divides c.ring → (x : ℕ) → x < data_boxes c → NoneToSpare c x
 spare c ok divides x hx =
-    let r = divides (◌∸◌ c.ring (eigen_q c x) (eigen_p c x)) (gap c ok x) in
-    none_to_spare c x hx ok r.0 (c.ring.times_comm r.0 (◌∸◌ c.ring (eigen_q c x) (eigen_p c x)) ∙ r.1)
+    let d = gap_inverse c ok divides x in
+    none_to_spare c x hx ok d.0 d.1

@@ -1,6 +1,6 @@
--- Sums over the numbers below n, and with one of them left out.
+-- Sums over the numbers below n, and with one or two of them left out.
 -- Assumes nothing.
-use Rattle.std.proofs.Common.{◌≡◌, ℕ, zero, suc, ◌+◌ as ◌plus◌, ◌<◌, if◌then◌else◌, ◌==◌, ◌≢◌, [], ◌∷◌, sym, refl, ap, ◌∙◌, ap₂, inl, inr, add-one, eq-eqb, ne_eqb, arith}
+use Rattle.std.proofs.Common.{◌≡◌, ℕ, zero, suc, ◌+◌ as ◌plus◌, ◌<◌, ◌≤◌, Bool, true, false, if◌then◌else◌, ◌||◌, ◌==◌, ◌≢◌, [], ◌∷◌, sym, refl, ap, ◌∙◌, ap₂, inl, inr, add-one, eq-eqb, ne_eqb, arith}
 use Rattle.std.proofs.lemmas.Bool.{cases_eq, cond-true, cond-false}
 use Rattle.field.specs.Ring.{Ring}
 use Rattle.code.specs.Codes.{sum}
@@ -59,6 +59,36 @@ module _ {A : Type 0} (R : Ring A) where
 
     pub sum_again : f x ≡ t + neg (but n x g) → sum R n f ≡ t
     sum_again e = parted ∙ ap (λ s. s + but n x g) e ∙ ring R (t ∷ but n x g ∷ []) (λ y z. y ⊖ z ⊕ z ≐ y) refl
+
+  -- the sum over the others than x and y
+  abbrev pub but_two : ℕ → ℕ → ℕ → (ℕ → A) → A
+  but_two n x y f = sum R n (λ b. if b == x || b == y then nil else f b)
+
+  in_turn : (s t : Bool) (v : A) → (if s || t then nil else v) ≡ (if t then nil else (if s then nil else v))
+  in_turn false false v = refl
+  in_turn false true v = refl
+  in_turn true false v = refl
+  in_turn true true v = refl
+
+  but_in_turn : (n x y : ℕ) (f : ℕ → A) → but_two n x y f ≡ but n y (λ b. if b == x then nil else f b)
+  but_in_turn n x y f = sum_ext n _ _ (λ b l. in_turn (b == x) (b == y) (f b))
+
+  module _ (n x y : ℕ) (f g : ℕ → A) (others : (b : ℕ) → b < n → b ≢ x → b ≢ y → f b ≡ g b) where
+    pub but_two_ext : but_two n x y f ≡ but_two n x y g
+    but_two_ext = but_in_turn n x y f ∙ but_ext n y _ _ (λ b l h. left_out b x (f b) (g b) (λ k. others b l k h)) ∙ sym (but_in_turn n x y g)
+
+    -- a sum by its terms at x and y and the others, which g has too
+    pub sum_but_two : x < n → y < n → x ≢ y → sum R n f ≡ f x + f y + but_two n x y g
+    sum_but_two lx ly h =
+        sum_but n x f lx
+        ∙ ap (λ s. f x + s) (sum_but n y (λ b. if b == x then nil else f b) ly ∙ ap₂ ◌+◌ (if_other y x (λ e. h (sym e)) nil (f y)) (sym (but_in_turn n x y f) ∙ but_two_ext))
+        ∙ sym (R.plus_assoc (f x) (f y) (but_two n x y g))
+
+    -- and where only x is one of them
+    pub sum_but_one : x < n → n ≤ y → sum R n f ≡ f x + but_two n x y g
+    sum_but_one lx ly =
+        sum_but n x f lx
+        ∙ ap (λ s. f x + s) (sum_ext n _ _ (λ b l. sym (in_turn (b == x) (b == y) (f b) ∙ if_other b y (omega arith) nil _)) ∙ but_two_ext)
 
 -- one term more
 pub sum_more : {A : Type 0} (R : Ring A) (n : ℕ) (f : ℕ → A) → sum R (n plus 1) f ≡ R.plus (sum R n f) (f n)

@@ -1,8 +1,7 @@
 -- The column given by a set of halves: such files exist and agree in it, and it is what the recovery computes. Assumes nothing.
-use Rattle.std.proofs.Common.{◌≡◌, ℕ, zero, suc, ◌+◌, ◌-◌, ◌*◌, ◌/◌, ◌%◌, ◌^◌, ◌<◌, ◌≤◌, Bool, if◌then◌else◌, nat_lt, ◌==◌, ◌≢◌, [], ◌∷◌, sym, refl, ap, ◌∙◌, subst, ap₂, inl, inr, div-lt_iff_lt-mul, arith, le-ltb, lt-ltb}
+use Rattle.std.proofs.Common.{◌≡◌, ℕ, zero, suc, ◌+◌, ◌-◌, ◌*◌, ◌/◌, ◌%◌, ◌^◌, ◌<◌, ◌≤◌, Bool, if◌then◌else◌, ◌==◌, ◌≢◌, [], ◌∷◌, sym, refl, ap, ◌∙◌, subst, ap₂, div-lt_iff_lt-mul, arith}
 use mathlib.Core.Path.{fun_ext}
 use native.Mathlib.Nat.{div-add-mod}
-use Rattle.std.proofs.lemmas.Bool.{cases_order, cond-true, cond-false}
 use Rattle.field.specs.Ring.{Ring, Divides}
 use Rattle.field.specs.Symbols.{Symbols}
 use Rattle.field.proofs.Solver.{o, i, ◌⊕◌, ◌⊖◌, ◌≐◌, ◌⟸◌, ◌·◌, ring, ring_by}
@@ -14,7 +13,8 @@ use Rattle.code.proofs.Digits.{rows}
 use Rattle.code.proofs.Pairing.{lower_partner, pair_lower, lower_pair, pair_partner, row_of_pair, pair_below, lower_below}
 use Rattle.code.proofs.Images.{image_same}
 use Rattle.code.proofs.Cuts.{cut, cut_in, cut_same, cut_after, cut_halved, cut_sum}
-use Rattle.code.proofs.Sums.{if_same, if_other, but_ext, sum_more}
+use Rattle.code.proofs.Columns.{column_data, column_first, column_second, by_box}
+use Rattle.code.proofs.Sums.{but_ext, sum_more}
 use Rattle.code.proofs.Seats.{seat_most, seat_helper, helper_seat, helper_apart, helper_most}
 use Rattle.code.proofs.Halves as halves
 use Rattle.code.proofs.Files as files
@@ -49,7 +49,7 @@ module _ {A : Type 0} (c : Code A) (ok : Proper c) where
       let er : a % m ≡ b % m = omega arith in
       h (sym (div-add-mod a m) ∙ ap₂ (λ x y. m * x + y) es er ∙ div-add-mod b m)
 
-  same_if : (a b : A) → ◌∸◌ R a b ≡ R.zero → a ≡ b
+  pub same_if : (a b : A) → ◌∸◌ R a b ≡ R.zero → a ≡ b
   same_if a b = ring_by R (a ∷ b ∷ []) (λ a b. a ≐ b ⟸ (i · a ⊖ b ≐ o) ∷ []) refl
 
   -- the two eigenvalues of a direction differ
@@ -59,17 +59,20 @@ module _ {A : Type 0} (c : Code A) (ok : Proper c) where
       let w : 2 * direction c x ≡ 2 * direction c x - 1 = ok.mark_distinct (2 * direction c x) (2 * direction c x - 1) (omega arith) (omega arith) (omega arith) (omega arith) (same_if (eigen_q c x) (eigen_p c x) e) in
       omega arith
 
-  abbrev trim : (ℕ → A) → ℕ → A
+  abbrev pub trim : (ℕ → A) → ℕ → A
   trim = cut R m
+
+  pub below : (C E : ℕ → A) → trim C ≡ trim E → Alike c C E
+  below C E e a l = sym (cut_in R m C a l) ∙ ap (λ X. X a) e ∙ cut_in R m E a l
 
   abbrev T : ℕ → (ℕ → A) → ℕ → A
   T b = halves.after R rows (kind c b) (shift c b) (eigen_p c b) (eigen_q c b)
 
   -- the parities of trimmed columns are trimmed
-  trim1 : (f : ℕ → ℕ → A) → (λ a. sum R n (λ b. trim (f b) a)) ≡ trim (parity1 c f)
+  pub trim1 : (f : ℕ → ℕ → A) → (λ a. sum R n (λ b. trim (f b) a)) ≡ trim (parity1 c f)
   trim1 f = cut_sum R m n f
 
-  trim2 : (f : ℕ → ℕ → A) → (λ a. sum R n (λ b. T b (trim (f b)) a)) ≡ trim (parity2 c f)
+  pub trim2 : (f : ℕ → ℕ → A) → (λ a. sum R n (λ b. T b (trim (f b)) a)) ≡ trim (parity2 c f)
   trim2 f =
       ap {B = ℕ → A} (λ (X : ℕ → ℕ → A) a. sum R n (λ b. X b a)) (fun_ext λ b. cut_after R m (kind c b) (shift c b) (shift_below c b ok.some) (eigen_p c b) (eigen_q c b) (f b))
       ∙ cut_sum R m n (λ b. T b (f b))
@@ -111,43 +114,27 @@ module _ {A : Type 0} (c : Code A) (ok : Proper c) where
     abbrev Theory : (f g : ℕ → ℕ → A) → Type 0
     Theory = files.Halves R rows boxes x
 
-    -- which column is whose
-    column_data : (f : ℕ → ℕ → A) (b : ℕ) → b < n → column c f b ≡ f b
-    column_data f b l = cond-true (nat_lt b n) _ _ (lt-ltb b n l)
-
-    column_first : (f : ℕ → ℕ → A) (b : ℕ) → b ≡ n → column c f b ≡ parity1 c f
-    column_first f b e = cond-false (nat_lt b n) _ _ (le-ltb b n (omega arith)) ∙ if_same b n e _ _
-
-    column_second : (f : ℕ → ℕ → A) (b : ℕ) → b ≡ suc n → column c f b ≡ parity2 c f
-    column_second f b e = cond-false (nat_lt b n) _ _ (le-ltb b n (omega arith)) ∙ if_other b n (λ o. omega arith) _ _
-
     -- a helper's half, by its box and what column that box has
-    by_box : (f g : ℕ → ℕ → A) → HasHalves c x f g → (b : ℕ) (C : ℕ → A) → column c f b ≡ C → b ≢ x → b < suc (suc n) → H (trim C) ≡ trim (wides g b)
-    by_box f g h b C is e l = widen C (g (seat x b)) λ j lj.
+    half_by_box : (f g : ℕ → ℕ → A) → HasHalves c x f g → (b : ℕ) (C : ℕ → A) → column c f b ≡ C → b ≢ x → b < suc (suc n) → H (trim C) ≡ trim (wides g b)
+    half_by_box f g h b C is e l = widen C (g (seat x b)) λ j lj.
         ap (λ X. half_for c x X j) (sym is) ∙ ap (λ y. half_for c x (column c f y) j) (sym (helper_seat c x b e))
         ∙ h (seat x b) (seat_most x b (suc n) (omega arith) e l) j lj
 
     to_theory : (f g : ℕ → ℕ → A) → HasHalves c x f g → Theory (λ b. trim (f b)) (λ b. trim (wides g b))
     to_theory f g h = record {
-      each = λ b l e. by_box f g h b (f b) (column_data f b l) e (omega arith);
-      first = ap H (trim1 f) ∙ by_box f g h n (parity1 c f) (column_first f n refl) (λ e. omega arith) (omega arith);
-      second = ap H (trim2 f) ∙ by_box f g h (suc n) (parity2 c f) (column_second f (suc n) refl) (λ e. omega arith) (omega arith);
+      each = λ b l e. half_by_box f g h b (f b) (column_data c f b l) e (omega arith);
+      first = ap H (trim1 f) ∙ half_by_box f g h n (parity1 c f) (column_first c f n refl) (λ e. omega arith) (omega arith);
+      second = ap H (trim2 f) ∙ half_by_box f g h (suc n) (parity2 c f) (column_second c f (suc n) refl) (λ e. omega arith) (omega arith);
     }
 
     from_theory : (f g : ℕ → ℕ → A) → Theory f (wides g) → HasHalves c x f g
     from_theory f g t h l =
-        subst (λ y. HalfAlike (half_for c x (column c f (helper c x h))) (g y)) (seat_helper c x h) (at (helper c x h) (helper_apart c x h) (helper_most c x h (suc n) l))
-      where
-        has : (b : ℕ) (C : ℕ → A) → column c f b ≡ C → H C ≡ wides g b → HalfAlike (half_for c x (column c f b)) (g (seat x b))
-        has b C is e j l = ap (λ X. half_for c x X j) is ∙ narrow C (g (seat x b)) e j l
-
-        at : (b : ℕ) → b ≢ x → b < suc (suc n) → HalfAlike (half_for c x (column c f b)) (g (seat x b))
-        at b e l =
-            elim (cases_order b n) [
-              | inl v ↦ has b (parity1 c f) (column_first f b v) (t.first ∙ ap (wides g) (sym v))
-              | inr (inl w) ↦ has b (f b) (column_data f b w) (t.each b w e)
-              | inr (inr w) ↦ let v : b ≡ suc n = omega arith in has b (parity2 c f) (column_second f b v) (t.second ∙ ap (wides g) (sym v))
-            ]
+        subst (λ y. HalfAlike (half_for c x (column c f (helper c x h))) (g y)) (seat_helper c x h)
+        (by_box c f (λ b C. b ≢ x → HalfAlike (half_for c x C) (g (seat x b)))
+        (λ b l e. narrow (f b) (g (seat x b)) (t.each b l e))
+        (λ e. narrow (parity1 c f) (g (seat x n)) t.first)
+        (λ e. narrow (parity2 c f) (g (seat x (suc n))) t.second)
+        (helper c x h) (omega (arith, helper_most c x h (suc n) l)) (helper_apart c x h))
 
     flat : (g : ℕ → A) → halves.Flat R rows k (wide g)
     flat g b a = ap g (pair_partner k b a)
@@ -159,9 +146,6 @@ module _ {A : Type 0} (c : Code A) (ok : Proper c) where
     trimmed : (f g : ℕ → ℕ → A) → HasHalves c x f g
         → trim (f x) ≡ files.given R rows boxes lost (λ b. trim (wides g b))
     trimmed f g h = files.agree R rows boxes lost _ _ (to_theory f g h)
-
-    below : (C E : ℕ → A) → trim C ≡ trim E → Alike c C E
-    below C E e a l = sym (cut_in R m C a l) ∙ ap (λ X. X a) e ∙ cut_in R m E a l
 
     agree : (g f f' : ℕ → ℕ → A) → HasHalves c x f g → HasHalves c x f' g → Alike c (f x) (f' x)
     agree g f f' h h' = below (f x) (f' x) (trimmed f g h ∙ sym (trimmed f' g h'))
@@ -200,11 +184,17 @@ module _ {A : Type 0} (c : Code A) (ok : Proper c) where
     recovered_given g C h f has a l =
         known_given g f has a l ∙ ap (known g) (sym (row_of_pair k a)) ∙ known_recovered g (odd (digit k a)) (pair_of k a) ∙ sym (h a l)
 
+-- the inverse of their difference
+pub gap_inverse : {A : Type 0} (c : Code A) → Proper c → Divides c.ring → (x : ℕ) → (d : A) × (c.ring.times d (◌∸◌ c.ring (eigen_q c x) (eigen_p c x)) ≡ c.ring.one)
+gap_inverse c ok divides x =
+    let r = divides (◌∸◌ c.ring (eigen_q c x) (eigen_p c x)) (gap c ok x) in
+    (r.0, c.ring.times_comm r.0 (◌∸◌ c.ring (eigen_q c x) (eigen_p c x)) ∙ r.1)
+
+pub restores : {A : Type 0} (c : Code A) → Proper c → Divides c.ring → (x : ℕ) → x < c.kinds * c.size → Restorable c x
+restores c ok divides x hx = let d = gap_inverse c ok divides x in restorable c ok x hx d.0 d.1
+
 pub renews : {A : Type 0} (R : Ring A) → Divides R → Renews R
-renews R divides m kinds mark ok x hx =
-    let c : Code _ = record { ring = R; size = m; kinds = kinds; mark = mark } in
-    let r = divides (◌∸◌ R (eigen_q c x) (eigen_p c x)) (gap c ok x) in
-    restorable c ok x hx r.0 (R.times_comm r.0 (◌∸◌ R (eigen_q c x) (eigen_p c x)) ∙ r.1)
+renews R divides m kinds mark ok = restores (record { ring = R; size = m; kinds = kinds; mark = mark }) ok divides
 
 -- the code of a cabinet is proper where the field has 2m marks
 pub proper : (Y : Symbols) (m : ℕ) → 1 ≤ m → 2 * m ≤ Y.marks → Proper (full Y m)

@@ -10,7 +10,7 @@ use Rattle.code.proofs.Digits.{Digits}
 use Rattle.code.proofs.Operators.{Mat, mix, Op, times, ◌⊟◌, op_sub, op_op, op_comm, op_same}
 use Rattle.code.proofs.Matrices.{mat}
 use Rattle.code.proofs.Halves.{after, after_op}
-use Rattle.code.proofs.Undoing.{Inverse, less, gap, shift_inverse, difference_inverse, eigen_inverse, eigen_rows}
+use Rattle.code.proofs.Inverses.{Inverse, less, gap, shift_inverse, difference_inverse, eigen_inverse, eigen_rows}
 
 module _ {A Row : Type 0} (R : Ring A) (D : Digits Row) where
   infixl 60 ◌+◌

