@@ -76,7 +76,7 @@ module _ {A : Type 0} (c : Code A) (ok : Proper c) where
         (R.times e.0 f.0, ring_by R (e.0 ∷ f.0 ∷ s ∷ t ∷ []) (λ e f s t. e ⊗ f ⊗ (s ⊗ t) ≐ i ⟸ (f ⊗ t · e ⊗ s ≐ i) ∷ (i · f ⊗ t ≐ i) ∷ []) refl e.1 f.1)
 
     -- the marks of two directions differ
-    marks_apart : (x y : ℕ) → direction c x ≢ direction c y → (j k : ℕ) → (j + 1) / 2 ≡ direction c x → (k + 1) / 2 ≡ direction c y → c.mark j ≢ c.mark k
+    pub marks_apart : (x y : ℕ) → direction c x ≢ direction c y → (j k : ℕ) → (j + 1) / 2 ≡ direction c x → (k + 1) / 2 ≡ direction c y → c.mark j ≢ c.mark k
     marks_apart x y h j k hj hk e =
         let s : 1 ≤ c.size = ok.some in
         let w : j ≡ k = ok.mark_distinct j k (omega arith) (omega arith) (omega arith) (omega arith) e in

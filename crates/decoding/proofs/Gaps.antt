@@ -1,11 +1,11 @@
 -- What blocks are undone by is there: the marks are not zero, and they differ. Assumes nothing.
-use Rattle.std.proofs.Common.{◌≡◌, ℕ, ◌+◌, ◌-◌, ◌*◌, ◌/◌, ◌≤◌, ◌<◌, ◌≢◌, [], ◌∷◌, refl, arith}
+use Rattle.std.proofs.Common.{◌≡◌, ℕ, ◌+◌, ◌-◌, ◌*◌, ◌/◌, ◌≤◌, ◌<◌, ◌≢◌, [], ◌∷◌, sym, refl, ap, ◌∙◌, arith}
 use Rattle.field.specs.Ring.{Ring, Divides}
 use Rattle.field.proofs.Solver.{o, i, ◌⊕◌, ◌⊗◌, ⊝◌, ◌≐◌, ◌⟸◌, ◌·◌, ring_by}
 use Rattle.code.specs.Blocks.{◌∸◌}
 use Rattle.code.specs.Codes.{Code, Proper, direction, shift, eigen_p, eigen_q}
 use Rattle.code.proofs.Theory.{same_if}
-use Rattle.code.proofs.Decoded.{marks_apart}
+use Rattle.code.proofs.Stands.{marks_apart}
 use Rattle.decoding.specs.Matrices.{determinant}
 
 module _ {A : Type 0} (c : Code A) (ok : Proper c) (divides : Divides c.ring) where
@@ -15,8 +15,8 @@ module _ {A : Type 0} (c : Code A) (ok : Proper c) (divides : Divides c.ring) wh
   -- no block has a determinant of zero, less a number that is none of its eigenvalues
   pub regular : (x : ℕ) (p q z w : A) → p ≡ eigen_p c x → q ≡ eigen_q c x → z ≡ w → eigen_p c x ≢ w → eigen_q c x ≢ w → determinant R p q z ≡ R.zero → ⊥
   regular x p q z w ep eq ez h k e =
-      let r = divides (◌∸◌ R p z) (λ n. h (same_if c ok _ _ ((λ i. ◌∸◌ R (ep (~ i)) (ez (~ i))) ∙ n))) in
-      k (same_if c ok _ _ ((λ i. ◌∸◌ R (eq (~ i)) (ez (~ i)))
+      let r = divides (◌∸◌ R p z) (λ n. h (same_if c ok _ _ (sym (λ i. ◌∸◌ R (ep i) (ez i)) ∙ n))) in
+      k (same_if c ok _ _ (sym (λ i. ◌∸◌ R (eq i) (ez i))
       ∙ ring_by R (◌∸◌ R p z ∷ ◌∸◌ R q z ∷ r.0 ∷ []) (λ s t b. t ≐ o ⟸ (b · s ⊗ t ≐ o) ∷ (⊝ t · s ⊗ b ≐ i) ∷ []) refl e r.1))
 
   pub regular_alone : (x : ℕ) (p q z : A) → p ≡ eigen_p c x → q ≡ eigen_q c x → z ≡ R.zero → determinant R p q z ≡ R.zero → ⊥

@@ -49,8 +49,9 @@ pub(crate) fn undo_blocks<F: Quotients>(cabinet: &Cabinet<F>, x: usize, column: 
     ensures { Holds F.symbols F.value (2 ^ cabinet.now.size.m) column.old (image (full F.symbols cabinet.now.size.m) x (at F.symbols F.value column.new)) }
 {
     let digit = cabinet.size.digit(x);
+    F::divides();
     let Some(undo) = Matrix::undo_shift(cabinet.block(x), F::zero()) else {
-        // No mark is zero.
+        // No mark is zero, and so no product of two.
         unreachable!()
     };
     turn(&digit, &digit, undo, undo, column);
@@ -86,6 +87,7 @@ fn solve_apart<F: Quotients>(cabinet: &Cabinet<F>, x: usize, y: usize, column: &
     let by = cabinet.size.digit(y);
     let block = cabinet.block(x);
     let other = cabinet.block(y);
+    F::divides();
     let Some(lower) = Matrix::undo_shift(block, other.p) else {
         // The marks of two directions differ.
         unreachable!()

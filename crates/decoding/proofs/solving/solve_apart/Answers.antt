@@ -2,14 +2,24 @@ use Rattle.std.proofs.Common.{ap, ◌∙◌}
 use Rattle.code.specs.Codes.{full}
 use Rattle.code.specs.Contents.{at}
 use Rattle.code.specs.Decoding.{to_eigen, from_eigen}
+use Rattle.code.proofs.Theory.{proper}
+use Rattle.decoding.proofs.Gaps.{regular_first, regular_second}
 use Rattle.decoding.proofs.Solutions.{shift_named, turned_named, apart_solved}
 use Rattle.decoding.proofs.solving.solve_apart.Goals as goal
 
 pub unreachable-requires : goal.unreachable-requires
-unreachable-requires g c = ?
+unreachable-requires g c =
+    let Y = g.F.Sums.symbols in
+    let cabinet = c.args.cabinet.now in
+    let block = c.block-block.ensures in
+    regular_first (full Y cabinet.size.m) (proper Y cabinet.size.m cabinet.size.some cabinet.marks) c.divides.ensures c.args.x c.args.y c.requires.apart _ _ _ block.first block.second c.block-other.ensures.first c.in_default.ensures
 
 pub unreachable-requires-in_default-undo_shift : goal.unreachable-requires-in_default-undo_shift
-unreachable-requires-in_default-undo_shift g c = ?
+unreachable-requires-in_default-undo_shift g c =
+    let Y = g.F.Sums.symbols in
+    let cabinet = c.args.cabinet.now in
+    let block = c.block-block.ensures in
+    regular_second (full Y cabinet.size.m) (proper Y cabinet.size.m cabinet.size.some cabinet.marks) c.divides.ensures c.args.x c.args.y c.requires.apart _ _ _ block.first block.second c.block-other.ensures.second c.in_default-undo_shift.ensures
 
 pub returns : goal.returns
 returns g c =

@@ -1,12 +1,17 @@
-use Rattle.std.proofs.Common.{arith}
+use Rattle.std.proofs.Common.{sym, ◌∙◌, ap₂, arith}
+use Rattle.code.specs.Blocks.{◌∸◌}
 use Rattle.code.specs.Codes.{full}
 use Rattle.code.specs.Contents.{at}
-use Rattle.code.proofs.Theory.{apart, proper}
+use Rattle.code.proofs.Theory.{apart, gap, proper}
 use Rattle.decoding.proofs.Solutions.{difference_named, turned_named, same_solved}
 use Rattle.decoding.proofs.solving.solve_same.Goals as goal
 
 pub unreachable-requires : goal.unreachable-requires
-unreachable-requires g c = ?
+unreachable-requires g c =
+    let Y = g.F.Sums.symbols in
+    let cabinet = c.args.cabinet.now in
+    let block = c.block.ensures in
+    gap (full Y cabinet.size.m) (proper Y cabinet.size.m cabinet.size.some cabinet.marks) c.args.x (ap₂ (◌∸◌ Y.ring) (sym block.second) (sym block.first) ∙ c.in_default.ensures)
 
 pub returns : goal.returns
 returns g c =
