@@ -1,3 +1,4 @@
 pub mod Gaps
+pub mod Parts
 pub mod Solutions
 pub mod Turns

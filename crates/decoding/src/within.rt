@@ -1,5 +1,5 @@
 // The columns of a file, one changed by itself or by another one.
-ghost use Rattle.std.specs.Prelude.{◌≡◌, ℕ, ◌*◌, ◌^◌, ◌<◌, length, if◌then◌else◌, ◌≢◌, ◌==◌, ◌||◌, nat_eq};
+ghost use Rattle.std.specs.Prelude.{◌≡◌, ℕ, ◌+◌, ◌*◌, ◌^◌, ◌<◌, ◌≤◌, length, if◌then◌else◌, ◌≢◌, ◌==◌, ◌||◌, nat_eq};
 ghost use Rattle.code.specs.Codes.{full, sum};
 ghost use Rattle.code.specs.Contents.{Holds, added, at, parts};
 ghost use Rattle.columns.specs.Parities.{share};
@@ -39,6 +39,15 @@ fn negate_within<F: Sums>(cabinet: &Cabinet<F>, x: usize, file: &mut [F])
     negate(&mut file[x * rows..(x + 1) * rows]);
 }
 
+// Column b of some columns of as many rows.
+fn part<F: Sums>(columns: &[F], rows: usize, b: usize) -> &[F]
+    requires { b * rows + rows ≤ length columns.now }
+    ensures rows { length result.now ≡ rows }
+    ensures column { Holds F.symbols F.value rows result.now (parts F.symbols F.value rows columns.now b) }
+{
+    &columns[b * rows..b * rows + rows]
+}
+
 // Adds the share of the column in place b to the column in place x.
 fn add_within<F: Sums>(
     cabinet: &Cabinet<F>,
@@ -54,11 +63,11 @@ fn add_within<F: Sums>(
     ensures { Replaced (2 ^ cabinet.now.size.m) x (parts F.symbols F.value (2 ^ cabinet.now.size.m) file.old) (added F.symbols (parts F.symbols F.value (2 ^ cabinet.now.size.m) file.old x) (share which (full F.symbols cabinet.now.size.m) b (parts F.symbols F.value (2 ^ cabinet.now.size.m) file.old b))) (parts F.symbols F.value (2 ^ cabinet.now.size.m) file.new) }
 {
     let rows = cabinet.size.rows();
+    let (before, rest) = file.split_at_mut(x * rows);
+    let (column, after) = rest.split_at_mut(rows);
     if b < x {
-        let (front, back) = file.split_at_mut(x * rows);
-        add_share(cabinet, which, b, &mut back[..rows], &front[b * rows..(b + 1) * rows]);
+        add_share(cabinet, which, b, column, part(before, rows, b));
     } else {
-        let (front, back) = file.split_at_mut(b * rows);
-        add_share(cabinet, which, b, &mut front[x * rows..(x + 1) * rows], &back[..rows]);
+        add_share(cabinet, which, b, column, part(after, rows, b - x - 1));
     }
 }
