@@ -41,19 +41,19 @@ module _ {A : Type 0} (c : Code A) (ok : Proper c) where
     second = λ w v. trim2 c ok f ∙ cut_same R c.size (parity2 c f) (g (suc n)) (has_second c x y f g h w v);
   }
 
-  module _ (x y : ℕ) (d : Decodes c x y) where
-    file_has : (g : ℕ → Column c) → HasColumns c x y (d.file g) g
+  module _ (x y : ℕ) (file : (ℕ → Column c) → File c) (d : Decodes c x y file) where
+    file_has : (g : ℕ → Column c) → HasColumns c x y (file g) g
     file_has g =
         let h = d.has g in
-        has_columns c x y (d.file g) g (λ b l w v a k. ap (λ C. C a) (h.each b l w v)) (λ w v a k. ap (λ C. C a) (h.first w v)) (λ w v a k. ap (λ C. C a) (h.second w v))
+        has_columns c x y (file g) g (λ b l w v a k. ap (λ C. C a) (h.each b l w v)) (λ w v a k. ap (λ C. C a) (h.first w v)) (λ w v a k. ap (λ C. C a) (h.second w v))
 
     -- whatever is the same as that file has the columns too
-    pub decoded_has : (f g : ℕ → Column c) → Same c f (d.file g) → HasColumns c x y f g
-    decoded_has f g s b l w v a k = same_columns f (d.file g) s b l a k ∙ file_has g b l w v a k
+    pub decoded_has : (f g : ℕ → Column c) → Same c f (file g) → HasColumns c x y f g
+    decoded_has f g s b l w v a k = same_columns f (file g) s b l a k ∙ file_has g b l w v a k
 
     decodable : Decodable c x y
     decodable = record {
-      exists = λ g. (d.file g, file_has g);
+      exists = λ g. (file g, file_has g);
       only = λ g f f' h h' b l. below c ok (f b) (f' b) (d.is _ _ (trimmed x y f g h) b l ∙ sym (d.is _ _ (trimmed x y f' g h') b l));
     }
 
@@ -101,22 +101,22 @@ module _ {A : Type 0} (c : Code A) (ok : Proper c) where
               (apart_solution c x y e.0 f.0, apart_solved c x y e.0 f.0 (λ w. k (omega arith)) e.1 f.1)
         ]
 
-    data_decodes : (x y : ℕ) → x < n → y < n + 2 → x ≢ y → Decodes c x y
-    data_decodes x y hx hy h =
+    data_decodable : (x y : ℕ) → x < n → y < n + 2 → x ≢ y → Decodable c x y
+    data_decodable x y hx hy h =
         elim (cases_order y n) [
-          | inl e ↦ let s = block_solvable x in subst (Decodes c x) (sym e) (first_decodes c x hx s.0 s.1)
-          | inr (inl l) ↦ let s = difference_solvable x y hx l h in two_decodes c x y s.0 s.1 hx l h
-          | inr (inr l) ↦ let e : y ≡ suc n = omega arith in subst (Decodes c x) (sym e) (second_decodes c x hx)
+          | inl e ↦ let s = block_solvable x in subst (Decodable c x) (sym e) (decodable x n _ (first_decodes c x hx s.0 s.1))
+          | inr (inl l) ↦ let s = difference_solvable x y hx l h in decodable x y _ (two_decodes c x y s.0 s.1 hx l h)
+          | inr (inr l) ↦ let e : y ≡ suc n = omega arith in subst (Decodable c x) (sym e) (decodable x (suc n) _ (second_decodes c x hx))
         ]
 
     pub any_two : (x y : ℕ) → x < n + 2 → y < n + 2 → x ≢ y → Decodable c x y
     any_two x y hx hy h =
         elim (cases_lt x n) [
-          | inl l ↦ decodable x y (data_decodes x y l hy h)
+          | inl l ↦ data_decodable x y l hy h
           | inr k ↦
               elim (cases_lt y n) [
-                | inl l ↦ turned x y (decodable y x (data_decodes y x l hx (λ e. h (sym e))))
-                | inr l ↦ decodable x y (parities_decode c x y k hx l hy h)
+                | inl l ↦ turned x y (data_decodable y x l hx (λ e. h (sym e)))
+                | inr l ↦ decodable x y _ (parities_decode c x y k hx l hy h)
               ]
         ]
 
