@@ -63,6 +63,13 @@ module _ {A : Type 0} (c : Code A) (ok : Proper c) where
     only = λ g f f' h h'. d.only g f f' (λ b l w v. h b l v w) (λ b l w v. h' b l v w);
   }
 
+  -- the marks of two directions differ: marks 2 i - 1 and 2 i are of direction i
+  pub marks_apart : (x y : ℕ) → direction c x ≢ direction c y → (j k : ℕ) → (j + 1) / 2 ≡ direction c x → (k + 1) / 2 ≡ direction c y → c.mark j ≢ c.mark k
+  marks_apart x y h j k hj hk e =
+      let s : 1 ≤ c.size = ok.some in
+      let w : j ≡ k = ok.mark_distinct j k (omega arith) (omega arith) (omega arith) (omega arith) e in
+      h (omega arith)
+
   module _ (divides : Divides R) where
     inverse : (a : A) → a ≢ R.zero → (e : A) × (R.times e a ≡ R.one)
     inverse a h = let r = divides a h in (r.0, R.times_comm r.0 a ∙ r.1)
@@ -74,13 +81,6 @@ module _ {A : Type 0} (c : Code A) (ok : Proper c) where
         let e = inverse s (λ w. h (same_if c ok _ _ w)) in
         let f = inverse t (λ w. k (same_if c ok _ _ w)) in
         (R.times e.0 f.0, ring_by R (e.0 ∷ f.0 ∷ s ∷ t ∷ []) (λ e f s t. e ⊗ f ⊗ (s ⊗ t) ≐ i ⟸ (f ⊗ t · e ⊗ s ≐ i) ∷ (i · f ⊗ t ≐ i) ∷ []) refl e.1 f.1)
-
-    -- the marks of two directions differ
-    marks_apart : (x y : ℕ) → direction c x ≢ direction c y → (j k : ℕ) → (j + 1) / 2 ≡ direction c x → (k + 1) / 2 ≡ direction c y → c.mark j ≢ c.mark k
-    marks_apart x y h j k hj hk e =
-        let s : 1 ≤ c.size = ok.some in
-        let w : j ≡ k = ok.mark_distinct j k (omega arith) (omega arith) (omega arith) (omega arith) e in
-        h (omega arith)
 
     block_solvable : (x : ℕ) → (S : Column c → Column c) × Undone R rows (image c x) S
     block_solvable x =
