@@ -36,9 +36,8 @@ module _ {A : Type 0} (c : Code A) where
     pub first : n ≢ x → n ≢ y → parity1 c f ≡ g n
     pub second : suc n ≢ x → suc n ≢ y → parity2 c f ≡ g (suc n)
 
-  -- a file that has them, and each that has them is that one
-  pub record Decodes (x y : ℕ) : Type 0 where
-    pub file : (ℕ → Column c) → File c
+  -- a file made of them has them, and each that has them is that one
+  pub record Decodes (x y : ℕ) (file : (ℕ → Column c) → File c) : Type 0 where
     pub has : (g : ℕ → Column c) → Has x y (file g) g
     pub is : (f g : ℕ → Column c) → Has x y f g → (b : ℕ) → b < n → f b ≡ file g b
 
@@ -91,9 +90,8 @@ module _ {A : Type 0} (c : Code A) where
           (λ u v w s t. u ⊖ w ≐ s ⊖ t ⟸ (i · u ⊕ v ≐ s) ∷ (⊝ i · v ≐ t ⊖ w) ∷ []) refl
           (ap (λ C. C a) k) (ap (λ C. image c y C a) (second_is g X Y e) ∙ image_sub (left1 g) X a))
 
-      pub two_decodes : x < n → y < n → x ≢ y → Decodes x y
+      pub two_decodes : x < n → y < n → x ≢ y → Decodes x y two_file
       two_decodes hx hy h = record {
-        file = two_file;
         has = λ g.
             let f = two_file g in
             let e : f x ≡ first_of_two g = placed_x x y (first_of_two g) (second_of_two g) g in
@@ -118,7 +116,7 @@ module _ {A : Type 0} (c : Code A) where
     abbrev left : (ℕ → Column c) → Column c → Column c
     left g s a = s a − but_two R n x y (λ b. T b (g b) a)
 
-    abbrev pub one_file : (ℕ → Column c) → Column c → File c
+    abbrev one_file : (ℕ → Column c) → Column c → File c
     one_file g s = placed x y (S (left g s)) (g y) g
 
     one_each : (g : ℕ → Column c) (s : Column c) (b : ℕ) → b < n → b ≢ x → b ≢ y → one_file g s b ≡ g b
@@ -134,10 +132,12 @@ module _ {A : Type 0} (c : Code A) where
           placed_by x y (S (left g s)) (g y) g (λ C. f b ≡ C) b
           (λ w. ap f w ∙ sym (u.again (f x)) ∙ ap S (one_left R n T x y f g s each hx hy e)) (λ w. absurd (omega arith)) (each b l)
 
-  -- with the first parity box, where S undoes its blocks, and with the second
-  pub first_decodes : (x : ℕ) → x < n → (S : Column c → Column c) → Undone R rows (image c x) S → Decodes x n
+  -- with the first parity box, where S undoes its blocks
+  abbrev pub first_file : ℕ → (Column c → Column c) → (ℕ → Column c) → File c
+  first_file x S g = one_file (image c) x n S g (g (suc n))
+
+  pub first_decodes : (x : ℕ) → x < n → (S : Column c → Column c) → Undone R rows (image c x) S → Decodes x n (first_file x S)
   first_decodes x hx S u = record {
-    file = λ g. one_file (image c) x n S g (g (suc n));
     has = λ g. record {
       each = one_each (image c) x n S g (g (suc n));
       first = λ w v. absurd (v refl);
@@ -146,11 +146,14 @@ module _ {A : Type 0} (c : Code A) where
     is = λ f g k. one_is (image c) x n S u hx (omega arith) f g (g (suc n)) k.each (k.second (λ w. omega arith) (λ w. omega arith));
   }
 
-  pub second_decodes : (x : ℕ) → x < n → Decodes x (suc n)
+  -- and with the second
+  abbrev pub second_file : ℕ → (ℕ → Column c) → File c
+  second_file x g = one_file plain x (suc n) (plain x) g (g n)
+
+  pub second_decodes : (x : ℕ) → x < n → Decodes x (suc n) (second_file x)
   second_decodes x hx =
       let u : Undone R rows (plain x) (plain x) = record { solves = λ C. refl; again = λ C. refl } in
       record {
-        file = λ g. one_file plain x (suc n) (plain x) g (g n);
         has = λ g. record {
           each = one_each plain x (suc n) (plain x) g (g n);
           first = λ w v. one_has plain x (suc n) (plain x) u hx (omega arith) g (g n);
@@ -160,9 +163,8 @@ module _ {A : Type 0} (c : Code A) where
       }
 
   -- the two parity boxes
-  pub parities_decode : (x y : ℕ) → n ≤ x → x < n + 2 → n ≤ y → y < n + 2 → x ≢ y → Decodes x y
+  pub parities_decode : (x y : ℕ) → n ≤ x → x < n + 2 → n ≤ y → y < n + 2 → x ≢ y → Decodes x y (λ g. g)
   parities_decode x y hx lx hy ly h = record {
-    file = λ g. g;
     has = λ g. record { each = λ b l w v. refl; first = λ w v. absurd (omega arith); second = λ w v. absurd (omega arith) };
     is = λ f g k b l. k.each b l (λ w. omega arith) (λ w. omega arith);
   }

@@ -1,5 +1,6 @@
 pub mod Columns
 pub mod Cuts
+pub mod Decoder
 pub mod Decodes
 pub mod Digits
 pub mod Eigens

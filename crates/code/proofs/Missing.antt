@@ -1,12 +1,11 @@
 -- Columns of which one or two are missing, and a sum over all: what the missing ones add to it, and those that add what is missing.
 -- Assumes nothing.
-use Rattle.std.proofs.Common.{◌≡◌, ℕ, ◌<◌, ◌≤◌, if◌then◌else◌, ◌==◌, ◌≢◌, [], ◌∷◌, sym, refl, ap, ◌∙◌, subst, inl, inr}
+use Rattle.std.proofs.Common.{◌≡◌, ℕ, ◌<◌, ◌≤◌, if◌then◌else◌, ◌==◌, ◌≢◌, sym, refl, ap, ◌∙◌, subst, inl, inr}
 use mathlib.Core.Path.{fun_ext}
 use Rattle.std.proofs.lemmas.Bool.{cases_eq}
 use Rattle.field.specs.Ring.{Ring}
-use Rattle.field.proofs.Solver.{i, ◌⊕◌, ◌⊖◌, ⊝◌, ◌≐◌, ◌⟸◌, ◌·◌, ring_by}
 use Rattle.code.specs.Codes.{sum}
-use Rattle.code.proofs.Sums.{if_same, if_other, but_two, sum_but_two, sum_but_one}
+use Rattle.code.proofs.Sums.{if_same, if_other, but_two, sum_but_two, sum_but_one, less_rest, with_rest}
 
 module _ {A : Type 0} (R : Ring A) where
   infixl 60 ◌+◌
@@ -15,12 +14,6 @@ module _ {A : Type 0} (R : Ring A) where
 
   abbrev ◌∸◌ : A → A → A
   a ∸ b = a + neg b
-
-  less_rest : (s v r t : A) → s ≡ v + r → s ≡ t → v ≡ t ∸ r
-  less_rest s v r t = ring_by R (s ∷ v ∷ r ∷ t ∷ []) (λ s v r t. v ≐ t ⊖ r ⟸ (⊝ i · s ≐ v ⊕ r) ∷ (i · s ≐ t) ∷ []) refl
-
-  with_rest : (s v r t : A) → s ≡ v + r → v ≡ t ∸ r → s ≡ t
-  with_rest s v r t = ring_by R (s ∷ v ∷ r ∷ t ∷ []) (λ s v r t. s ≐ t ⟸ (i · s ≐ v ⊕ r) ∷ (i · v ≐ t ⊖ r) ∷ []) refl
 
   -- n columns, a map for each, and the sum s of what these make of them; all columns are those of g but for x and y
   module _ (n : ℕ) (T : ℕ → (ℕ → A) → ℕ → A) (x y : ℕ) (f g : ℕ → ℕ → A) (s : ℕ → A) (others : (b : ℕ) → b < n → b ≢ x → b ≢ y → f b ≡ g b) where
@@ -35,17 +28,17 @@ module _ {A : Type 0} (R : Ring A) where
 
     module _ (lx : x < n) (ly : y < n) (h : x ≢ y) where
       pub two_left : total ≡ s → (λ a. T x (f x) a + T y (f y) a) ≡ left
-      two_left e = fun_ext λ a. less_rest _ _ _ (s a) (sum_but_two R n x y _ _ (at a) lx ly h) (ap (λ C. C a) e)
+      two_left e = fun_ext λ a. less_rest R _ _ _ (s a) (sum_but_two R n x y _ _ (at a) lx ly h) (ap (λ C. C a) e)
 
       pub two_total : (λ a. T x (f x) a + T y (f y) a) ≡ left → total ≡ s
-      two_total e = fun_ext λ a. with_rest _ _ _ (s a) (sum_but_two R n x y _ _ (at a) lx ly h) (ap (λ C. C a) e)
+      two_total e = fun_ext λ a. with_rest R _ _ _ (s a) (sum_but_two R n x y _ _ (at a) lx ly h) (ap (λ C. C a) e)
 
     module _ (lx : x < n) (ly : n ≤ y) where
       pub one_left : total ≡ s → T x (f x) ≡ left
-      one_left e = fun_ext λ a. less_rest _ _ _ (s a) (sum_but_one R n x y _ _ (at a) lx ly) (ap (λ C. C a) e)
+      one_left e = fun_ext λ a. less_rest R _ _ _ (s a) (sum_but_one R n x y _ _ (at a) lx ly) (ap (λ C. C a) e)
 
       pub one_total : T x (f x) ≡ left → total ≡ s
-      one_total e = fun_ext λ a. with_rest _ _ _ (s a) (sum_but_one R n x y _ _ (at a) lx ly) (ap (λ C. C a) e)
+      one_total e = fun_ext λ a. with_rest R _ _ _ (s a) (sum_but_one R n x y _ _ (at a) lx ly) (ap (λ C. C a) e)
 
 -- the columns g with X at x and Y at y
 module _ {B : Type 0} (x y : ℕ) (X Y : B) (g : ℕ → B) where

@@ -41,19 +41,19 @@ module _ {A : Type 0} (c : Code A) (ok : Proper c) where
     second = λ w v. trim2 c ok f ∙ cut_same R c.size (parity2 c f) (g (suc n)) (has_second c x y f g h w v);
   }
 
-  module _ (x y : ℕ) (d : Decodes c x y) where
-    file_has : (g : ℕ → Column c) → HasColumns c x y (d.file g) g
+  module _ (x y : ℕ) (file : (ℕ → Column c) → File c) (d : Decodes c x y file) where
+    file_has : (g : ℕ → Column c) → HasColumns c x y (file g) g
     file_has g =
         let h = d.has g in
-        has_columns c x y (d.file g) g (λ b l w v a k. ap (λ C. C a) (h.each b l w v)) (λ w v a k. ap (λ C. C a) (h.first w v)) (λ w v a k. ap (λ C. C a) (h.second w v))
+        has_columns c x y (file g) g (λ b l w v a k. ap (λ C. C a) (h.each b l w v)) (λ w v a k. ap (λ C. C a) (h.first w v)) (λ w v a k. ap (λ C. C a) (h.second w v))
 
     -- whatever is the same as that file has the columns too
-    pub decoded_has : (f g : ℕ → Column c) → Same c f (d.file g) → HasColumns c x y f g
-    decoded_has f g s b l w v a k = same_columns f (d.file g) s b l a k ∙ file_has g b l w v a k
+    pub decoded_has : (f g : ℕ → Column c) → Same c f (file g) → HasColumns c x y f g
+    decoded_has f g s b l w v a k = same_columns f (file g) s b l a k ∙ file_has g b l w v a k
 
     decodable : Decodable c x y
     decodable = record {
-      exists = λ g. (d.file g, file_has g);
+      exists = λ g. (file g, file_has g);
       only = λ g f f' h h' b l. below c ok (f b) (f' b) (d.is _ _ (trimmed x y f g h) b l ∙ sym (d.is _ _ (trimmed x y f' g h') b l));
     }
 
@@ -62,6 +62,13 @@ module _ {A : Type 0} (c : Code A) (ok : Proper c) where
     exists = λ g. let r = d.exists g in (r.0, λ b l w v. r.1 b l v w);
     only = λ g f f' h h'. d.only g f f' (λ b l w v. h b l v w) (λ b l w v. h' b l v w);
   }
+
+  -- the marks of two directions differ: marks 2 i - 1 and 2 i are of direction i
+  pub marks_apart : (x y : ℕ) → direction c x ≢ direction c y → (j k : ℕ) → (j + 1) / 2 ≡ direction c x → (k + 1) / 2 ≡ direction c y → c.mark j ≢ c.mark k
+  marks_apart x y h j k hj hk e =
+      let s : 1 ≤ c.size = ok.some in
+      let w : j ≡ k = ok.mark_distinct j k (omega arith) (omega arith) (omega arith) (omega arith) e in
+      h (omega arith)
 
   module _ (divides : Divides R) where
     inverse : (a : A) → a ≢ R.zero → (e : A) × (R.times e a ≡ R.one)
@@ -74,13 +81,6 @@ module _ {A : Type 0} (c : Code A) (ok : Proper c) where
         let e = inverse s (λ w. h (same_if c ok _ _ w)) in
         let f = inverse t (λ w. k (same_if c ok _ _ w)) in
         (R.times e.0 f.0, ring_by R (e.0 ∷ f.0 ∷ s ∷ t ∷ []) (λ e f s t. e ⊗ f ⊗ (s ⊗ t) ≐ i ⟸ (f ⊗ t · e ⊗ s ≐ i) ∷ (i · f ⊗ t ≐ i) ∷ []) refl e.1 f.1)
-
-    -- the marks of two directions differ
-    pub marks_apart : (x y : ℕ) → direction c x ≢ direction c y → (j k : ℕ) → (j + 1) / 2 ≡ direction c x → (k + 1) / 2 ≡ direction c y → c.mark j ≢ c.mark k
-    marks_apart x y h j k hj hk e =
-        let s : 1 ≤ c.size = ok.some in
-        let w : j ≡ k = ok.mark_distinct j k (omega arith) (omega arith) (omega arith) (omega arith) e in
-        h (omega arith)
 
     block_solvable : (x : ℕ) → (S : Column c → Column c) × Undone R rows (image c x) S
     block_solvable x =
@@ -101,22 +101,22 @@ module _ {A : Type 0} (c : Code A) (ok : Proper c) where
               (apart_solution c x y e.0 f.0, apart_solved c x y e.0 f.0 (λ w. k (omega arith)) e.1 f.1)
         ]
 
-    data_decodes : (x y : ℕ) → x < n → y < n + 2 → x ≢ y → Decodes c x y
-    data_decodes x y hx hy h =
+    data_decodable : (x y : ℕ) → x < n → y < n + 2 → x ≢ y → Decodable c x y
+    data_decodable x y hx hy h =
         elim (cases_order y n) [
-          | inl e ↦ let s = block_solvable x in subst (Decodes c x) (sym e) (first_decodes c x hx s.0 s.1)
-          | inr (inl l) ↦ let s = difference_solvable x y hx l h in two_decodes c x y s.0 s.1 hx l h
-          | inr (inr l) ↦ let e : y ≡ suc n = omega arith in subst (Decodes c x) (sym e) (second_decodes c x hx)
+          | inl e ↦ let s = block_solvable x in subst (Decodable c x) (sym e) (decodable x n _ (first_decodes c x hx s.0 s.1))
+          | inr (inl l) ↦ let s = difference_solvable x y hx l h in decodable x y _ (two_decodes c x y s.0 s.1 hx l h)
+          | inr (inr l) ↦ let e : y ≡ suc n = omega arith in subst (Decodable c x) (sym e) (decodable x (suc n) _ (second_decodes c x hx))
         ]
 
     pub any_two : (x y : ℕ) → x < n + 2 → y < n + 2 → x ≢ y → Decodable c x y
     any_two x y hx hy h =
         elim (cases_lt x n) [
-          | inl l ↦ decodable x y (data_decodes x y l hy h)
+          | inl l ↦ data_decodable x y l hy h
           | inr k ↦
               elim (cases_lt y n) [
-                | inl l ↦ turned x y (decodable y x (data_decodes y x l hx (λ e. h (sym e))))
-                | inr l ↦ decodable x y (parities_decode c x y k hx l hy h)
+                | inl l ↦ turned x y (data_decodable y x l hx (λ e. h (sym e)))
+                | inr l ↦ decodable x y _ (parities_decode c x y k hx l hy h)
               ]
         ]
 

@@ -4,7 +4,7 @@ use Rattle.std.proofs.Common.{◌≡◌, ℕ, zero, suc, ◌+◌ as ◌plus◌, 
 use Rattle.std.proofs.lemmas.Bool.{cases_eq, cond-true, cond-false}
 use Rattle.field.specs.Ring.{Ring}
 use Rattle.code.specs.Codes.{sum}
-use Rattle.field.proofs.Solver.{o, i, ◌⊕◌, ◌⊖◌, ◌≐◌, ◌⟸◌, ◌·◌, ring, ring_by}
+use Rattle.field.proofs.Solver.{o, i, ◌⊕◌, ◌⊖◌, ⊝◌, ◌≐◌, ◌⟸◌, ◌·◌, ring, ring_by}
 
 -- one value where two numbers are the same, another elsewhere
 pub if_same : {B : Type 0} (a b : ℕ) → a ≡ b → (v w : B) → (if a == b then v else w) ≡ v
@@ -49,16 +49,23 @@ module _ {A : Type 0} (R : Ring A) where
             ∙ ap (λ v. f x + (but n x f + v)) (sym (if_other n x h nil (f n)))
       ]
 
+  -- from a sum s of v and r, the part v, and back
+  pub less_rest : (s v r t : A) → s ≡ v + r → s ≡ t → v ≡ t + neg r
+  less_rest s v r t = ring_by R (s ∷ v ∷ r ∷ t ∷ []) (λ s v r t. v ≐ t ⊖ r ⟸ (⊝ i · s ≐ v ⊕ r) ∷ (i · s ≐ t) ∷ []) refl
+
+  pub with_rest : (s v r t : A) → s ≡ v + r → v ≡ t + neg r → s ≡ t
+  with_rest s v r t = ring_by R (s ∷ v ∷ r ∷ t ∷ []) (λ s v r t. s ≐ t ⟸ (i · s ≐ v ⊕ r) ∷ (i · v ≐ t ⊖ r) ∷ []) refl
+
   -- a term from the sum and the others, and the sum from a term and the others, where g has the others of f
   module _ (n x : ℕ) (f g : ℕ → A) (t : A) (l : x < n) (others : (b : ℕ) → b < n → b ≢ x → f b ≡ g b) where
     parted : sum R n f ≡ f x + but n x g
     parted = sum_but n x f l ∙ ap (λ s. f x + s) (but_ext n x f g others)
 
     pub term_left : sum R n f ≡ t → f x ≡ t + neg (but n x g)
-    term_left e = ring_by R (f x ∷ t ∷ but n x g ∷ []) (λ y z w. y ≐ z ⊖ w ⟸ (i · y ⊕ w ≐ z) ∷ []) refl (sym parted ∙ e)
+    term_left = less_rest _ _ _ t parted
 
     pub sum_again : f x ≡ t + neg (but n x g) → sum R n f ≡ t
-    sum_again e = parted ∙ ap (λ s. s + but n x g) e ∙ ring R (t ∷ but n x g ∷ []) (λ y z. y ⊖ z ⊕ z ≐ y) refl
+    sum_again = with_rest _ _ _ t parted
 
   -- the sum over the others than x and y
   abbrev pub but_two : ℕ → ℕ → ℕ → (ℕ → A) → A
