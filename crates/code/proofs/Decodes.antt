@@ -44,6 +44,12 @@ module _ {A : Type 0} (c : Code A) where
   abbrev plain : ℕ → Column c → Column c
   plain b C = C
 
+  -- what the blocks of a box make of a difference
+  pub image_sub : (b : ℕ) (C E : Column c) (a : ℕ) → image c b (λ a. C a − E a) a ≡ image c b C a − image c b E a
+  image_sub b C E a =
+      let T = after_op R rows (kind c b) (shift c b) (eigen_p c b) (eigen_q c b) in
+      ap (λ X. X a) (T (λ a. C a − E a) ∙ op_sub R rows (shift c b) (mat R (kind c b) (eigen_p c b) (eigen_q c b)) C E ∙ ap₂ (λ X Y a. X a − Y a) (sym (T C)) (sym (T E)))
+
   -- two data boxes, where S undoes the difference of their blocks
   module _ (x y : ℕ) (S : Column c → Column c) where
     abbrev left1 : (ℕ → Column c) → Column c
@@ -67,11 +73,6 @@ module _ {A : Type 0} (c : Code A) where
     two_each : (g : ℕ → Column c) (b : ℕ) → b < n → b ≢ x → b ≢ y → two_file g b ≡ g b
     two_each g b l = placed_else x y (first_of_two g) (second_of_two g) g b
 
-    image_sub : (C E : Column c) (a : ℕ) → image c y (λ a. C a − E a) a ≡ image c y C a − image c y E a
-    image_sub C E a =
-        let T = after_op R rows (kind c y) (shift c y) (eigen_p c y) (eigen_q c y) in
-        ap (λ X. X a) (T (λ a. C a − E a) ∙ op_sub R rows (shift c y) (mat R (kind c y) (eigen_p c y) (eigen_q c y)) C E ∙ ap₂ (λ X Y a. X a − Y a) (sym (T C)) (sym (T E)))
-
     second_is : (g : ℕ → Column c) (X Y : Column c) → (λ a. X a ⊹ Y a) ≡ left1 g → Y ≡ λ a. left1 g a − X a
     second_is g X Y e = fun_ext λ a. ring_by R (X a ∷ Y a ∷ left1 g a ∷ []) (λ u v s. v ≐ s ⊖ u ⟸ (i · u ⊕ v ≐ s) ∷ []) refl (ap (λ C. C a) e)
 
@@ -80,7 +81,7 @@ module _ {A : Type 0} (c : Code A) where
       images g a =
           ring_by R (image c x (first_of_two g) a ∷ image c y (second_of_two g) a ∷ image c y (first_of_two g) a ∷ left2 g a ∷ image c y (left1 g) a ∷ [])
           (λ u v w s t. u ⊕ v ≐ s ⟸ (i · v ≐ t ⊖ w) ∷ (i · u ⊖ w ≐ s ⊖ t) ∷ []) refl
-          (image_sub (left1 g) (first_of_two g) a) (ap (λ X. X a) (u.solves (rest g)))
+          (image_sub y (left1 g) (first_of_two g) a) (ap (λ X. X a) (u.solves (rest g)))
 
       first_is : (g : ℕ → Column c) (X Y : Column c) → (λ a. X a ⊹ Y a) ≡ left1 g → (λ a. image c x X a ⊹ image c y Y a) ≡ left2 g → X ≡ first_of_two g
       first_is g X Y e k =
@@ -88,7 +89,7 @@ module _ {A : Type 0} (c : Code A) where
           ∙ ap S (fun_ext λ a.
           ring_by R (image c x X a ∷ image c y Y a ∷ image c y X a ∷ left2 g a ∷ image c y (left1 g) a ∷ [])
           (λ u v w s t. u ⊖ w ≐ s ⊖ t ⟸ (i · u ⊕ v ≐ s) ∷ (⊝ i · v ≐ t ⊖ w) ∷ []) refl
-          (ap (λ C. C a) k) (ap (λ C. image c y C a) (second_is g X Y e) ∙ image_sub (left1 g) X a))
+          (ap (λ C. C a) k) (ap (λ C. image c y C a) (second_is g X Y e) ∙ image_sub y (left1 g) X a))
 
       pub two_decodes : x < n → y < n → x ≢ y → Decodes x y two_file
       two_decodes hx hy h = record {

@@ -30,7 +30,7 @@ module _ {A : Type 0} (c : Code A) (ok : Proper c) (divides : Divides c.ring) wh
     other e = n (ap (λ d. c.size - d) e)
 
     pub regular_first : z ≡ eigen_p c y → determinant R p q z ≡ R.zero → ⊥
-    regular_first ez = regular x p q z (eigen_p c y) ep eq ez (marks_apart c ok divides x y other _ _ (omega arith) (omega arith)) (marks_apart c ok divides x y other _ _ (omega arith) (omega arith))
+    regular_first ez = regular x p q z (eigen_p c y) ep eq ez (marks_apart c ok x y other _ _ (omega arith) (omega arith)) (marks_apart c ok x y other _ _ (omega arith) (omega arith))
 
     pub regular_second : z ≡ eigen_q c y → determinant R p q z ≡ R.zero → ⊥
-    regular_second ez = regular x p q z (eigen_q c y) ep eq ez (marks_apart c ok divides x y other _ _ (omega arith) (omega arith)) (marks_apart c ok divides x y other _ _ (omega arith) (omega arith))
+    regular_second ez = regular x p q z (eigen_q c y) ep eq ez (marks_apart c ok x y other _ _ (omega arith) (omega arith)) (marks_apart c ok x y other _ _ (omega arith) (omega arith))

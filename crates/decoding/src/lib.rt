@@ -1,6 +1,7 @@
 // Missing data columns from the columns of the other boxes.
 #![tactic(auto)]
 
+mod filling;
 mod matrix;
 mod solving;
 mod within;

@@ -1,14 +1,14 @@
 // The columns of a file, one changed by itself or by another one.
-ghost use Rattle.std.specs.Prelude.{◌≡◌, ℕ, ◌+◌, ◌*◌, ◌^◌, ◌<◌, ◌≤◌, length, if◌then◌else◌, ◌≢◌, ◌==◌, ◌||◌, nat_eq};
-ghost use Rattle.code.specs.Codes.{full, sum};
+ghost use Rattle.std.specs.Prelude.{◌≡◌, ℕ, ◌+◌, ◌*◌, ◌^◌, ◌<◌, ◌≤◌, length, ◌≢◌};
+ghost use Rattle.code.specs.Codes.{Alike, full, image};
 ghost use Rattle.code.specs.Contents.{Holds, added, at, parts};
 ghost use Rattle.columns.specs.Parities.{share};
-ghost use Rattle.decoding.specs.Steps.{Replaced};
+ghost use Rattle.decoding.specs.Steps.{Kept, Replaced, less, others};
 
-use crate::solving::{negate};
+use crate::solving::{negate, solve_difference, undo_blocks};
 use boxes::Cabinet;
 use columns::{Parity, add_column, add_image};
-use field::Sums;
+use field::{Quotients, Sums};
 
 // Adds the share that the column of the data box in place b has in a parity column.
 fn add_share<F: Sums>(
@@ -70,4 +70,89 @@ fn add_within<F: Sums>(
     } else {
         add_share(cabinet, which, b, column, part(after, rows, b - x - 1));
     }
+}
+
+// Adds the shares of all data boxes but those in the places x and y to the column in place `into`.
+fn add_others<F: Sums>(
+    cabinet: &Cabinet<F>,
+    which: Parity,
+    x: usize,
+    y: usize,
+    into: usize,
+    file: &mut [F],
+)
+    requires whole { length file.old ≡ 3 * cabinet.now.size.m * 2 ^ cabinet.now.size.m }
+    requires data { into < 3 * cabinet.now.size.m }
+    requires one { (b : ℕ) → b ≢ x → b ≢ y → b ≢ into }
+    ensures { Replaced (2 ^ cabinet.now.size.m) into (parts F.symbols F.value (2 ^ cabinet.now.size.m) file.old) (added F.symbols (parts F.symbols F.value (2 ^ cabinet.now.size.m) file.old into) (others which (full F.symbols cabinet.now.size.m) x y (parts F.symbols F.value (2 ^ cabinet.now.size.m) file.old))) (parts F.symbols F.value (2 ^ cabinet.now.size.m) file.new) }
+{
+    for b in 0..cabinet.size.boxes() {
+        if b != x && b != y {
+            add_within(cabinet, which, b, into, file);
+        }
+    }
+}
+
+// Takes the shares of all data boxes but those in the places x and y off the
+// parity column that stands in place `into`.
+pub(crate) fn take_others<F: Sums>(
+    cabinet: &Cabinet<F>,
+    which: Parity,
+    x: usize,
+    y: usize,
+    into: usize,
+    file: &mut [F],
+)
+    requires whole { length file.old ≡ 3 * cabinet.now.size.m * 2 ^ cabinet.now.size.m }
+    requires data { into < 3 * cabinet.now.size.m }
+    requires one { (b : ℕ) → b ≢ x → b ≢ y → b ≢ into }
+    ensures { Replaced (2 ^ cabinet.now.size.m) into (parts F.symbols F.value (2 ^ cabinet.now.size.m) file.old) (less F.symbols.ring (parts F.symbols F.value (2 ^ cabinet.now.size.m) file.old into) (others which (full F.symbols cabinet.now.size.m) x y (parts F.symbols F.value (2 ^ cabinet.now.size.m) file.old))) (parts F.symbols F.value (2 ^ cabinet.now.size.m) file.new) }
+{
+    negate_within(cabinet, into, file);
+    add_others(cabinet, which, x, y, into, file);
+    negate_within(cabinet, into, file);
+}
+
+// Takes the share of the column in place b off the column in place x.
+pub(crate) fn take_within<F: Sums>(
+    cabinet: &Cabinet<F>,
+    which: Parity,
+    b: usize,
+    x: usize,
+    file: &mut [F],
+)
+    requires whole { length file.old ≡ 3 * cabinet.now.size.m * 2 ^ cabinet.now.size.m }
+    requires data { x < 3 * cabinet.now.size.m }
+    requires other { b < 3 * cabinet.now.size.m }
+    requires two { b ≢ x }
+    ensures { Replaced (2 ^ cabinet.now.size.m) x (parts F.symbols F.value (2 ^ cabinet.now.size.m) file.old) (less F.symbols.ring (parts F.symbols F.value (2 ^ cabinet.now.size.m) file.old x) (share which (full F.symbols cabinet.now.size.m) b (parts F.symbols F.value (2 ^ cabinet.now.size.m) file.old b))) (parts F.symbols F.value (2 ^ cabinet.now.size.m) file.new) }
+{
+    negate_within(cabinet, x, file);
+    add_within(cabinet, which, b, x, file);
+    negate_within(cabinet, x, file);
+}
+
+// Undoes the blocks of the data box in place x on the column that stands there.
+pub(crate) fn undo_within<F: Quotients>(cabinet: &Cabinet<F>, x: usize, file: &mut [F])
+    requires whole { length file.old ≡ 3 * cabinet.now.size.m * 2 ^ cabinet.now.size.m }
+    requires data { x < 3 * cabinet.now.size.m }
+    ensures others { Kept (2 ^ cabinet.now.size.m) x (parts F.symbols F.value (2 ^ cabinet.now.size.m) file.old) (parts F.symbols F.value (2 ^ cabinet.now.size.m) file.new) }
+    ensures blocks { Alike (full F.symbols cabinet.now.size.m) (parts F.symbols F.value (2 ^ cabinet.now.size.m) file.old x) (image (full F.symbols cabinet.now.size.m) x (parts F.symbols F.value (2 ^ cabinet.now.size.m) file.new x)) }
+{
+    let rows = cabinet.size.rows();
+    undo_blocks(cabinet, x, &mut file[x * rows..(x + 1) * rows]);
+}
+
+// In place x, writes the column of which the blocks of the data boxes in the
+// places x and y make columns that differ by the one that stands there.
+pub(crate) fn solve_within<F: Quotients>(cabinet: &Cabinet<F>, x: usize, y: usize, file: &mut [F])
+    requires whole { length file.old ≡ 3 * cabinet.now.size.m * 2 ^ cabinet.now.size.m }
+    requires first { x < 3 * cabinet.now.size.m }
+    requires second { y < 3 * cabinet.now.size.m }
+    requires two { x ≢ y }
+    ensures others { Kept (2 ^ cabinet.now.size.m) x (parts F.symbols F.value (2 ^ cabinet.now.size.m) file.old) (parts F.symbols F.value (2 ^ cabinet.now.size.m) file.new) }
+    ensures difference { Alike (full F.symbols cabinet.now.size.m) (parts F.symbols F.value (2 ^ cabinet.now.size.m) file.old x) (less F.symbols.ring (image (full F.symbols cabinet.now.size.m) x (parts F.symbols F.value (2 ^ cabinet.now.size.m) file.new x)) (image (full F.symbols cabinet.now.size.m) y (parts F.symbols F.value (2 ^ cabinet.now.size.m) file.new x))) }
+{
+    let rows = cabinet.size.rows();
+    solve_difference(cabinet, x, y, &mut file[x * rows..(x + 1) * rows]);
 }
