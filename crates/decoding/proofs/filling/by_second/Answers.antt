@@ -1,0 +1,9 @@
+use Rattle.std.proofs.Common.{arith}
+use Rattle.code.specs.Codes.{full}
+use Rattle.decoding.proofs.Filled.{by_second}
+use Rattle.decoding.proofs.filling.by_second.Goals as goal
+
+pub returns : goal.returns
+returns g c =
+    let size = c.args.cabinet.now.size in
+    by_second (full g.F.Sums.symbols size.m) size.some c.args.x _ _ _ _ c.requires.data (omega (arith, c.boxes.ensures)) c.take_others.ensures c.undo_within.ensures.others c.undo_within.ensures.blocks
