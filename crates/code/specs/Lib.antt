@@ -5,3 +5,4 @@ pub mod Decoding
 pub mod Laws
 pub mod Recovery
 pub mod Rows
+pub mod Standing

@@ -3,5 +3,6 @@
 
 mod filling;
 mod matrix;
+mod missing;
 mod solving;
 mod within;
