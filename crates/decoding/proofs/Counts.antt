@@ -1,5 +1,5 @@
 -- How many boxes stand, where those that are out are known. Assumes nothing.
-use Rattle.std.proofs.Common.{◌≡◌, ℕ, zero, suc, ◌+◌, ◌-◌, ◌<◌, ◌≤◌, ◌≢◌, ◌⊎◌, Bool, true, false, if◌then◌else◌, ◌==◌, nat_lt, List, Some, None, inl, inr, sym, refl, ap, ◌∙◌, subst, arith, add-one, le-ltb, lt-ltb}
+use Rattle.std.proofs.Common.{◌≡◌, ℕ, zero, suc, ◌+◌, ◌<◌, ◌≤◌, ◌≢◌, Bool, true, false, List, Some, None, inl, inr, sym, refl, ap, ◌∙◌, arith, add-one, le-ltb, lt-ltb}
 use Rattle.std.proofs.lemmas.Bool.{cases_lt, cases_order, cases_eq, cond-true, cond-false, true≢false}
 use Rattle.code.specs.Standing.{standing}
 use Rattle.code.proofs.Sums.{if_same, if_other}

@@ -1,5 +1,5 @@
 -- The steps of the decoding, one after another, and what they lead to. Assumes nothing.
-use Rattle.std.proofs.Common.{◌≡◌, ℕ, suc, ◌+◌ as ◌plus◌, ◌-◌, ◌*◌, ◌^◌, ◌<◌, ◌≤◌, ◌≢◌, Bool, true, false, if◌then◌else◌, ◌==◌, ◌||◌, [], ◌∷◌, ◌⊎◌, inl, inr, sym, refl, ap, ap₂, ◌∙◌, arith}
+use Rattle.std.proofs.Common.{◌≡◌, ℕ, ◌+◌ as ◌plus◌, ◌^◌, ◌<◌, ◌≤◌, ◌≢◌, if◌then◌else◌, ◌==◌, ◌||◌, [], ◌∷◌, ◌⊎◌, sym, refl, ap, ap₂, ◌∙◌, arith}
 use Rattle.std.proofs.lemmas.Bool.Decides.{nat_tests}
 use Rattle.field.specs.Ring.{Ring}
 use Rattle.field.proofs.Solver.{o, i, ◌⊕◌, ◌⊖◌, ⊝◌, ◌≐◌, ◌⟸◌, ◌·◌, ring, ring_by}
@@ -7,7 +7,7 @@ use Rattle.code.specs.Blocks.{◌∸◌}
 use Rattle.code.specs.Codes.{Code, Column, File, Alike, data_boxes, sum, image, parity1, parity2}
 use Rattle.code.proofs.Decodes.{image_sub}
 use Rattle.code.proofs.Images.{image_same}
-use Rattle.code.proofs.Sums.{but_two_ext, sum_but_two, sum_but_one, sum_more, if_same, if_other}
+use Rattle.code.proofs.Sums.{but_two_ext, sum_but_two, sum_but_one, sum_more}
 use Rattle.code.proofs.Theory.{shift_below}
 use Rattle.columns.specs.Parities.{share}
 use Rattle.columns.specs.declared.parity.Parity.{Parity}
@@ -17,7 +17,6 @@ use Rattle.decoding.specs.Steps.{Kept, Replaced, less, others, ByFirst, BySecond
 
 module _ {A : Type 0} (c : Code A) (some : 1 ≤ c.size) where
   infixl 60 ◌+◌
-
   abbrev R : Ring A
   R = c.ring
 
@@ -146,8 +145,8 @@ module _ {A : Type 0} (c : Code A) (some : 1 ≤ c.size) where
     both_second a l =
         sum_but_two R n x y (λ b. image c b (g b) a) (λ b. image c b (f b) a) (λ b k h w. image_same c b (g b) (f b) (shift_below c b some) (both_others b h w) a l) hx hy xy
         ∙ ring_by R (image c x (g x) a ∷ image c y (g y) a ∷ image c x (f2 x) a ∷ image c x (g y) a ∷ f3 y a ∷ f2 y a ∷ f y a ∷ others Second c x y f a ∷ [])
-            (λ u v w z t s p q. u ⊕ v ⊕ q ≐ p ⟸ (i · u ≐ w ⊖ z) ∷ (⊝ i · t ≐ v ⊖ z) ∷ (i · t ≐ s ⊖ w) ∷ (i · s ≐ p ⊖ q) ∷ []) refl
-            (image_x a l) (solved_y a l) (s3.here a l) (at_y a l)
+        (λ u v w z t s p q. u ⊕ v ⊕ q ≐ p ⟸ (i · u ≐ w ⊖ z) ∷ (⊝ i · t ≐ v ⊖ z) ∷ (i · t ≐ s ⊖ w) ∷ (i · s ≐ p ⊖ q) ∷ []) refl
+        (image_x a l) (solved_y a l) (s3.here a l) (at_y a l)
 
     pub by_both : ByBoth c x y f g
     by_both = record { others = λ b l h k. both_others b h k; first = both_first; second = both_second }

@@ -1,7 +1,7 @@
 -- What blocks are undone by is there: the marks are not zero, and they differ. Assumes nothing.
-use Rattle.std.proofs.Common.{◌≡◌, ℕ, ◌+◌, ◌-◌, ◌*◌, ◌/◌, ◌≤◌, ◌<◌, ◌≢◌, [], ◌∷◌, sym, refl, ap, ◌∙◌, arith}
+use Rattle.std.proofs.Common.{◌≡◌, ℕ, ◌-◌, ◌*◌, ◌≤◌, ◌≢◌, [], ◌∷◌, sym, refl, ap, ◌∙◌, arith}
 use Rattle.field.specs.Ring.{Ring, Divides}
-use Rattle.field.proofs.Solver.{o, i, ◌⊕◌, ◌⊗◌, ⊝◌, ◌≐◌, ◌⟸◌, ◌·◌, ring_by}
+use Rattle.field.proofs.Solver.{o, i, ◌⊗◌, ⊝◌, ◌≐◌, ◌⟸◌, ◌·◌, ring_by}
 use Rattle.code.specs.Blocks.{◌∸◌}
 use Rattle.code.specs.Codes.{Code, Proper, direction, shift, eigen_p, eigen_q}
 use Rattle.code.proofs.Theory.{same_if}

@@ -1,5 +1,6 @@
 pub mod Counts
 pub mod Filled
+pub mod Fills
 pub mod Gaps
 pub mod Parts
 pub mod Solutions

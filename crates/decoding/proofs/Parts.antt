@@ -1,5 +1,5 @@
 -- One column of a file lent out, and what the file holds afterwards. Assumes nothing.
-use Rattle.std.proofs.Common.{◌≡◌, ℕ, zero, suc, ◌+◌, ◌-◌, ◌*◌, ◌<◌, ◌≤◌, ◌≢◌, List, ◌++◌, map, length, slice_index_or, take, drop, sym, ap, ap₂, ◌∙◌, subst, inl, inr, arith, rules, mul-le-mul_right}
+use Rattle.std.proofs.Common.{◌≡◌, ℕ, ◌+◌, ◌-◌, ◌*◌, ◌<◌, ◌≤◌, List, ◌++◌, map, length, slice_index_or, take, drop, sym, ap, ap₂, ◌∙◌, subst, inl, inr, arith, rules, mul-le-mul_right}
 use Rattle.std.proofs.lemmas.Bool.{cases_order}
 use Rattle.std.proofs.lemmas.List.{take-map, drop-map, length-map, length-take, length-drop, map-append, get_or-take, get_or-drop, places}
 use Rattle.std.proofs.lemmas.Nat.{mul-add-lt}

@@ -1,7 +1,6 @@
 -- What the program's turns leave is what the blocks lead back. Assumes nothing.
-use Rattle.std.proofs.Common.{◌≡◌, ℕ, ◌-◌, ◌^◌, ◌<◌, ◌≤◌, ◌≢◌, Bool, true, false, if◌then◌else◌, sym, ap, ◌∙◌, ap₂, subst}
+use Rattle.std.proofs.Common.{◌≡◌, ℕ, ◌^◌, ◌<◌, ◌≤◌, ◌≢◌, Bool, true, false, if◌then◌else◌, sym, ◌∙◌, ap₂, subst}
 use Rattle.field.specs.Ring.{Ring}
-use Rattle.boxes.specs.Boxes.{BlockOf}
 use Rattle.code.specs.Blocks.{◌∸◌}
 use Rattle.code.specs.Codes.{Code, Column, kind, direction, shift, eigen_p, eigen_q, image}
 use Rattle.code.specs.Decoding.{Matrix, turn, to_eigen, from_eigen, undo_shift, undo_difference}

@@ -1,5 +1,5 @@
 -- A matrix along a digit, at the two rows of a pair and on columns that agree. Assumes nothing.
-use Rattle.std.proofs.Common.{◌≡◌, ℕ, ◌+◌, ◌^◌, ◌<◌, ◌≢◌, Bool, true, false, if◌then◌else◌, sym, refl, ap, ◌∙◌, ap₂, subst, inl, inr}
+use Rattle.std.proofs.Common.{◌≡◌, ℕ, ◌+◌, ◌^◌, ◌<◌, Bool, true, false, if◌then◌else◌, sym, refl, ap, ◌∙◌, ap₂, inl, inr}
 use Rattle.std.proofs.lemmas.Bool.{cases_eq}
 use Rattle.field.specs.Ring.{Ring}
 use Rattle.code.specs.Decoding.{Matrix, turn}

@@ -1,5 +1,5 @@
 -- Which boxes are out, and what a cabinet holds in the others. Assumes nothing.
-use Rattle.std.specs.Prelude.{◌≡◌, ℕ, zero, suc, ◌+◌, ◌-◌, ◌*◌, ◌<◌, ◌≤◌, Bool, true, false, not, ◌==◌, if◌then◌else◌, nat_lt, List, map}
+use Rattle.std.specs.Prelude.{◌≡◌, ℕ, suc, ◌+◌, ◌<◌, ◌≤◌, Bool, true, false, not, ◌==◌, if◌then◌else◌, nat_lt, List, map}
 use Rattle.std.specs.List.{list_any}
 use Rattle.code.specs.Codes.{Code, Column, File, data_boxes}
 use Rattle.code.specs.Standing.{standing}

@@ -1,8 +1,11 @@
 // Missing data columns from the columns of the other boxes.
 #![tactic(auto)]
 
+mod decoder;
 mod filling;
 mod matrix;
 mod missing;
 mod solving;
 mod within;
+
+pub use decoder::decode;

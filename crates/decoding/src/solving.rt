@@ -24,13 +24,7 @@ pub(crate) fn negate<F: Sums>(column: &mut [F])
 
 // A matrix along one digit of the rows of a column: of two, that which a digit
 // of the pair's lower row chooses.
-fn turn<F: Sums>(
-    along: &Digit,
-    by: &Digit,
-    lower: Matrix<F>,
-    upper: Matrix<F>,
-    column: &mut [F],
-)
+fn turn<F: Sums>(along: &Digit, by: &Digit, lower: Matrix<F>, upper: Matrix<F>, column: &mut [F])
     requires rows { length column.old ≡ 2 ^ along.now.digits }
     requires choice { by.now.place ≡ along.now.place → lower ≡ upper }
     ensures { Holds F.symbols F.value (2 ^ along.now.digits) column.new (turned F.symbols.ring along.now.place by.now.place (λ r. if r then entries F.value upper else entries F.value lower) (at F.symbols F.value column.old)) }

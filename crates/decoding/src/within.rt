@@ -11,13 +11,7 @@ use columns::{Parity, add_column, add_image};
 use field::{Quotients, Sums};
 
 // Adds the share that the column of the data box in place b has in a parity column.
-fn add_share<F: Sums>(
-    cabinet: &Cabinet<F>,
-    which: Parity,
-    b: usize,
-    sum: &mut [F],
-    column: &[F],
-)
+fn add_share<F: Sums>(cabinet: &Cabinet<F>, which: Parity, b: usize, sum: &mut [F], column: &[F])
     requires sums { length sum.old ≡ 2 ^ cabinet.now.size.m }
     requires rows { length column.now ≡ 2 ^ cabinet.now.size.m }
     requires data { b < 3 * cabinet.now.size.m }
@@ -49,13 +43,7 @@ fn part<F: Sums>(columns: &[F], rows: usize, b: usize) -> &[F]
 }
 
 // Adds the share of the column in place b to the column in place x.
-fn add_within<F: Sums>(
-    cabinet: &Cabinet<F>,
-    which: Parity,
-    b: usize,
-    x: usize,
-    file: &mut [F],
-)
+fn add_within<F: Sums>(cabinet: &Cabinet<F>, which: Parity, b: usize, x: usize, file: &mut [F])
     requires whole { length file.old ≡ 3 * cabinet.now.size.m * 2 ^ cabinet.now.size.m }
     requires data { x < 3 * cabinet.now.size.m }
     requires other { b < 3 * cabinet.now.size.m }

@@ -1,4 +1,4 @@
-use Rattle.std.proofs.Common.{◌≡◌, ℕ, ◌<◌, Bool, true, false, if◌then◌else◌, length, sym, ap, ◌∙◌, arith}
+use Rattle.std.proofs.Common.{◌≡◌, ℕ, Bool, true, false, if◌then◌else◌, sym, ap, ◌∙◌, arith}
 use Rattle.code.specs.Contents.{at}
 use Rattle.code.specs.Rows.{odd, digit, pair_of}
 use Rattle.code.proofs.Pairing.{pair_lower, pair_upper}

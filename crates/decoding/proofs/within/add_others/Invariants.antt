@@ -1,4 +1,4 @@
-use Rattle.std.proofs.Common.{◌≡◌, ◌*◌, ◌^◌, length}
+use Rattle.std.proofs.Common.{◌^◌}
 use Rattle.code.specs.Codes.{full}
 use Rattle.code.specs.Contents.{parts}
 use Rattle.decoding.proofs.Filled.{Upto}

@@ -1,5 +1,4 @@
-use Rattle.std.proofs.Common.{◌≡◌, ◌+◌, ◌-◌, ◌*◌, ◌^◌, length, sym, ap, ap₂, ◌∙◌, arith, mul-le-mul_right}
-use Rattle.std.proofs.lemmas.List.{length-drop, length-take}
+use Rattle.std.proofs.Common.{◌≡◌, ◌+◌, ◌-◌, ◌*◌, ◌^◌, sym, ap, ap₂, ◌∙◌, arith, mul-le-mul_right}
 use Rattle.code.specs.Codes.{full}
 use Rattle.code.specs.Contents.{at, parts}
 use Rattle.columns.proofs.Shares.{share_same}
@@ -28,9 +27,9 @@ returns-then-b-x g c =
     let r = c.requires in
     split_replaced Y v _ (3 * size.m) x _ rows file r.whole r.data _ _ _ _ cut.front cut.back again.front again.back c.add_share.new.sum _ (c.add_share.auto.sum ∙ again.front_len ∙ rows)
     λ a l. c.add_share.ensures a l
-        ∙ ap₂ Y.ring.plus (split_column Y v _ (3 * size.m) x _ rows file r.whole r.data _ _ _ _ cut.front cut.back again.front again.back a l)
-        (share_same c.args.which (full Y size.m) b (at Y v c.part.result.now) (parts Y v (2 ^ size.m) file b) size.some
-        (λ d k. c.part.ensures.column d (omega (arith, rows)) ∙ split_before Y v _ (3 * size.m) x _ rows file r.whole r.data _ _ _ _ cut.front cut.back again.front again.back b c.if-b-x.true d k) a l)
+    ∙ ap₂ Y.ring.plus (split_column Y v _ (3 * size.m) x _ rows file r.whole r.data _ _ _ _ cut.front cut.back again.front again.back a l)
+    (share_same c.args.which (full Y size.m) b (at Y v c.part.result.now) (parts Y v (2 ^ size.m) file b) size.some
+    (λ d k. c.part.ensures.column d (omega (arith, rows)) ∙ split_before Y v _ (3 * size.m) x _ rows file r.whole r.data _ _ _ _ cut.front cut.back again.front again.back b c.if-b-x.true d k) a l)
 
 pub returns-else-b-x : goal.returns-else-b-x
 returns-else-b-x g c =
@@ -46,6 +45,6 @@ returns-else-b-x g c =
     let r = c.requires in
     split_replaced Y v _ (3 * size.m) x _ rows file r.whole r.data _ _ _ _ cut.front cut.back again.front again.back c.add_share-else-b-x.new.sum _ (c.add_share-else-b-x.auto.sum ∙ again.front_len ∙ rows)
     λ a l. c.add_share-else-b-x.ensures a l
-        ∙ ap₂ Y.ring.plus (split_column Y v _ (3 * size.m) x _ rows file r.whole r.data _ _ _ _ cut.front cut.back again.front again.back a l)
-        (share_same c.args.which (full Y size.m) b (at Y v c.part-else-b-x.result.now) (parts Y v (2 ^ size.m) file b) size.some
-        (λ d k. c.part-else-b-x.ensures.column d (omega (arith, rows)) ∙ split_after Y v _ (3 * size.m) x _ rows file r.whole r.data _ _ _ _ cut.front cut.back again.front again.back b (omega (arith, c.if-b-x.false, r.two)) d k) a l)
+    ∙ ap₂ Y.ring.plus (split_column Y v _ (3 * size.m) x _ rows file r.whole r.data _ _ _ _ cut.front cut.back again.front again.back a l)
+    (share_same c.args.which (full Y size.m) b (at Y v c.part-else-b-x.result.now) (parts Y v (2 ^ size.m) file b) size.some
+    (λ d k. c.part-else-b-x.ensures.column d (omega (arith, rows)) ∙ split_after Y v _ (3 * size.m) x _ rows file r.whole r.data _ _ _ _ cut.front cut.back again.front again.back b (omega (arith, c.if-b-x.false, r.two)) d k) a l)

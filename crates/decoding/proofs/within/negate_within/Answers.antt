@@ -1,4 +1,4 @@
-use Rattle.std.proofs.Common.{◌*◌, sym, ap, ◌∙◌, subst, arith}
+use Rattle.std.proofs.Common.{◌*◌, ap, ◌∙◌, arith}
 use Rattle.decoding.proofs.Parts.{lent_long, lent_at, lent_replaced}
 use Rattle.decoding.proofs.within.negate_within.Goals as goal
 

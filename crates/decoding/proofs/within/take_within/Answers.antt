@@ -1,4 +1,3 @@
-use Rattle.std.proofs.Common.{refl, ◌≢◌}
 use Rattle.code.specs.Codes.{full}
 use Rattle.columns.proofs.Shares.{share_same}
 use Rattle.decoding.proofs.Filled.{taken}

@@ -1,0 +1,153 @@
+// The columns of the boxes that are out, from those of the others.
+ghost use Rattle.std.specs.Prelude.{◌≡◌, ℕ, ◌+◌, ◌*◌, ◌^◌, ◌<◌, suc, true, false, if◌then◌else◌, ◌==◌, [], ◌∷◌, length, MatchResult};
+ghost use Rattle.code.specs.Codes.{full, parity1, parity2};
+ghost use Rattle.code.specs.Contents.{Holds, at, parts};
+ghost use Rattle.code.specs.Laws.{HasColumns};
+ghost use Rattle.code.specs.Standing.{FileOf};
+ghost use Rattle.columns.specs.Parities.{parity as parity_of};
+ghost use Rattle.refusal.specs.Refusals.{earliest, few_marks, refusal, wrong_lengths, wrong_size};
+ghost use Rattle.decoding.specs.Missing.{held, many_out, stands, wrong_boxes};
+ghost use Rattle.decoding.specs.Steps.{Replaced};
+
+use crate::filling::{by_both, by_first, by_second};
+use crate::missing::{Missing, all_numbered, find, is_out};
+use boxes::Cabinet;
+use code::code_stands;
+use columns::{Parity, parity_column};
+use field::{Quotients, Sums};
+use refusal::{Refusal, fitting};
+
+// Copies a column into place x of a file.
+fn place<F: Sums>(cabinet: &Cabinet<F>, x: usize, column: &[F], file: &mut [F])
+    requires whole { length file.old ≡ 3 * cabinet.now.size.m * 2 ^ cabinet.now.size.m }
+    requires rows { length column.now ≡ 2 ^ cabinet.now.size.m }
+    requires data { x < 3 * cabinet.now.size.m }
+    ensures { Replaced (2 ^ cabinet.now.size.m) x (parts F.symbols F.value (2 ^ cabinet.now.size.m) file.old) (at F.symbols F.value column.now) (parts F.symbols F.value (2 ^ cabinet.now.size.m) file.new) }
+{
+    let rows = cabinet.size.rows();
+    file[x * rows..(x + 1) * rows].copy_from_slice(column);
+}
+
+// One box is out, in place x, and the second parity box is left aside: if it
+// holds data, the first parity tells its column.
+fn fill_one<F: Sums>(cabinet: &Cabinet<F>, x: usize, first: &[F], file: &mut [F])
+    requires whole { length file.old ≡ 3 * cabinet.now.size.m * 2 ^ cabinet.now.size.m }
+    requires rows { length first.now ≡ 2 ^ cabinet.now.size.m }
+    requires inside { x < 3 * cabinet.now.size.m + 2 }
+    ensures { (second : ℕ → F.symbols.Symbol) → HasColumns (full F.symbols cabinet.now.size.m) (if x == suc (3 * cabinet.now.size.m) then 3 * cabinet.now.size.m else x) (suc (3 * cabinet.now.size.m)) (parts F.symbols F.value (2 ^ cabinet.now.size.m) file.new) (held (full F.symbols cabinet.now.size.m) (parts F.symbols F.value (2 ^ cabinet.now.size.m) file.old) (at F.symbols F.value first.now) second) }
+{
+    if x < cabinet.size.boxes() {
+        place(cabinet, x, first, file);
+        by_first(cabinet, x, file);
+    }
+}
+
+// Two boxes are out, in the places x and y, the lower first.
+fn fill_two<F: Quotients>(
+    cabinet: &Cabinet<F>,
+    x: usize,
+    y: usize,
+    first: &[F],
+    second: &[F],
+    file: &mut [F],
+)
+    requires whole { length file.old ≡ 3 * cabinet.now.size.m * 2 ^ cabinet.now.size.m }
+    requires first_rows { length first.now ≡ 2 ^ cabinet.now.size.m }
+    requires second_rows { length second.now ≡ 2 ^ cabinet.now.size.m }
+    requires order { x < y }
+    requires last { y < 3 * cabinet.now.size.m + 2 }
+    ensures { HasColumns (full F.symbols cabinet.now.size.m) x y (parts F.symbols F.value (2 ^ cabinet.now.size.m) file.new) (held (full F.symbols cabinet.now.size.m) (parts F.symbols F.value (2 ^ cabinet.now.size.m) file.old) (at F.symbols F.value first.now) (at F.symbols F.value second.now)) }
+{
+    let boxes = cabinet.size.boxes();
+    if y < boxes {
+        place(cabinet, x, first, file);
+        place(cabinet, y, second, file);
+        by_both(cabinet, x, y, file);
+    } else if x < boxes {
+        if y == boxes {
+            place(cabinet, x, second, file);
+            by_second(cabinet, x, file);
+        } else {
+            place(cabinet, x, first, file);
+            by_first(cabinet, x, file);
+        }
+    }
+}
+
+// Fills in the data columns of the boxes that are out. Refused, with nothing
+// written, where three or more are out.
+fn fill_data<F: Quotients>(
+    cabinet: &Cabinet<F>,
+    out: &[usize],
+    first: &[F],
+    second: &[F],
+    file: &mut [F],
+) -> Result<(), Refusal>
+    requires whole { length file.old ≡ 3 * cabinet.now.size.m * 2 ^ cabinet.now.size.m }
+    requires first_rows { length first.now ≡ 2 ^ cabinet.now.size.m }
+    requires second_rows { length second.now ≡ 2 ^ cabinet.now.size.m }
+    ensures answer { refusal result ≡ many_out (3 * cabinet.now.size.m + 2) out.now }
+    ensures file { MatchResult result (λ _. FileOf (full F.symbols cabinet.now.size.m) (stands out.now) (held (full F.symbols cabinet.now.size.m) (parts F.symbols F.value (2 ^ cabinet.now.size.m) file.old) (at F.symbols F.value first.now) (at F.symbols F.value second.now)) (parts F.symbols F.value (2 ^ cabinet.now.size.m) file.new)) (λ _. file.new ≡ file.old) }
+{
+    // By the code's laws there is exactly one such file.
+    code_stands::<F>();
+    match find(cabinet.size.boxes() + 2, out)? {
+        Missing::Nothing => {}
+        Missing::One(x) => fill_one(cabinet, x, first, file),
+        Missing::Two(x, y) => fill_two(cabinet, x, y, first, second, file),
+    }
+    Ok(())
+}
+
+// Encodes a parity column again if its box, in place b, is out.
+fn fill_parity<F: Sums>(
+    cabinet: &Cabinet<F>,
+    out: &[usize],
+    b: usize,
+    which: Parity,
+    file: &[F],
+    column: &mut [F],
+)
+    requires whole { length file.now ≡ 3 * cabinet.now.size.m * 2 ^ cabinet.now.size.m }
+    requires rows { length column.old ≡ 2 ^ cabinet.now.size.m }
+    requires inside { b < 20 }
+    ensures out { stands out.now b ≡ false → Holds F.symbols F.value (2 ^ cabinet.now.size.m) column.new (parity_of which (full F.symbols cabinet.now.size.m) (parts F.symbols F.value (2 ^ cabinet.now.size.m) file.now)) }
+    ensures kept { stands out.now b ≡ true → column.new ≡ column.old }
+{
+    if is_out(out, b) {
+        parity_column(cabinet.size.m, which, file, column).unwrap();
+    }
+}
+
+// Fills in the columns of the boxes that are out, whose numbers from 1 on are
+// listed, whatever the others hold: those of data boxes in the file, and those
+// of parity boxes in the two further columns. The file is then the one that
+// has the columns of the first 3m boxes that stand, and nothing else has
+// changed. Refused, with nothing written, by a size, too few marks, a length or
+// a box that does not fit, and where three or more boxes are out.
+pub fn decode<F: Quotients>(
+    m: usize,
+    out: &[usize],
+    file: &mut [F],
+    first: &mut [F],
+    second: &mut [F],
+) -> Result<(), Refusal>
+    ensures answer { refusal result ≡ earliest (wrong_size m ∷ few_marks F.symbols m ∷ wrong_lengths ((length file.old, 3 * m * 2 ^ m) ∷ (length first.old, 2 ^ m) ∷ (length second.old, 2 ^ m) ∷ []) ∷ wrong_boxes (3 * m + 2) out.now ∷ many_out (3 * m + 2) out.now ∷ []) }
+    ensures file { MatchResult result (λ _. FileOf (full F.symbols m) (stands out.now) (held (full F.symbols m) (parts F.symbols F.value (2 ^ m) file.old) (at F.symbols F.value first.old) (at F.symbols F.value second.old)) (parts F.symbols F.value (2 ^ m) file.new)) (λ _. file.new ≡ file.old) }
+    ensures first { MatchResult result (λ _. (stands out.now (3 * m) ≡ false → Holds F.symbols F.value (2 ^ m) first.new (parity1 (full F.symbols m) (parts F.symbols F.value (2 ^ m) file.new))) × (stands out.now (3 * m) ≡ true → first.new ≡ first.old)) (λ _. first.new ≡ first.old) }
+    ensures second { MatchResult result (λ _. (stands out.now (3 * m + 1) ≡ false → Holds F.symbols F.value (2 ^ m) second.new (parity2 (full F.symbols m) (parts F.symbols F.value (2 ^ m) file.new))) × (stands out.now (3 * m + 1) ≡ true → second.new ≡ second.old)) (λ _. second.new ≡ second.old) }
+{
+    let cabinet = Cabinet::new(m)?;
+    let boxes = cabinet.size.boxes();
+    let rows = cabinet.size.rows();
+    fitting(&[
+        (file.len(), boxes * rows),
+        (first.len(), rows),
+        (second.len(), rows),
+    ])?;
+    all_numbered(boxes + 2, out)?;
+    fill_data(&cabinet, out, first, second, file)?;
+    fill_parity(&cabinet, out, boxes, Parity::First, file, first);
+    fill_parity(&cabinet, out, boxes + 1, Parity::Second, file, second);
+    Ok(())
+}
