@@ -2,8 +2,17 @@
 """What the program `renewal` must print, worked out apart from it.
 
 The field of bytes by logarithms to the base 3, the blocks as matrices built
-from their left eigenvectors, and the lost column by solving the linear
-equations of the halves with Gaussian elimination.
+from their left eigenvectors, and what is lost by solving the linear equations
+of the numbers that are left with Gaussian elimination.
+
+The lines, with columns and halves as `box N:` and the numbers of their symbols:
+- a heading, and the columns of all boxes, the parities last;
+- a heading, and the halves that the other boxes send for the lost box, in the
+  order in which they arrive;
+- a heading, the lost column renewed from them, whether it is the lost one, and
+  how many numbers were taken, beside the cost of whole columns;
+- a heading, the columns of two boxes that are out, decoded from the columns of
+  the others, and whether they are the lost ones.
 """
 
 LEVELS = [
@@ -12,6 +21,8 @@ LEVELS = [
 ]
 M, LOST = 2, 3
 ROWS, BOXES = 2 ** M, 3 * M
+ARRIVING = [6, 1, 8, 4, 2, 7, 5]  # the helpers of the lost box
+OUT = [2, 5]
 
 EXP, LOG = [], {}
 x = 1
@@ -79,15 +90,21 @@ def half(column):
 
 def halves(file):
     columns = encode(file)
-    return sum((half(columns[b]) for b in range(BOXES + 2) if b + 1 != LOST), [])
+    return sum((half(columns[b - 1]) for b in ARRIVING), [])
 
 
-def solve():
-    """The lost column of any file that has the halves, by elimination over all symbols of a file."""
+def kept(file):
+    columns = encode(file)
+    return sum((columns[b - 1] for b in range(1, BOXES + 3) if b not in OUT), [])
+
+
+def solve(left, boxes):
+    """The columns of some boxes of any file that leaves the numbers that LEVELS leaves, by elimination
+    over all symbols of a file."""
     n = BOXES * ROWS
-    unit = [halves([1 if i == k else 0 for i in range(n)]) for k in range(n)]
-    want = halves(LEVELS)
-    lost = [(LOST - 1) * ROWS + a for a in range(ROWS)]
+    unit = [left([1 if i == k else 0 for i in range(n)]) for k in range(n)]
+    want = left(LEVELS)
+    lost = [(b - 1) * ROWS + a for b in boxes for a in range(ROWS)]
     order = [k for k in range(n) if k not in lost] + lost
     system = [[unit[k][r] for k in order] + [want[r]] for r in range(len(want))]
     row, found = 0, {}
@@ -109,7 +126,7 @@ def solve():
         c = order.index(k)
         assert all(not system[found[c]][d] for d in range(n) if d != c), "not determined"
         out.append(system[found[c]][n])
-    return out
+    return [out[i:i + ROWS] for i in range(0, len(out), ROWS)]
 
 
 def line(box, symbols):
@@ -120,14 +137,17 @@ columns = encode(LEVELS)
 print(f"A cabinet of {BOXES} data boxes and 2 parity boxes, {ROWS} symbols in each:")
 for b, column in enumerate(columns):
     print(line(b + 1, column))
-print(f"Box {LOST} is lost. The others send their halves:")
-taken = 0
-for b, column in enumerate(columns):
-    if b + 1 != LOST:
-        print(line(b + 1, half(column)))
-        taken += len(half(column))
-renewed = solve()
+print(f"Box {LOST} is lost. The others send their halves, which arrive in this order:")
+for b in ARRIVING:
+    print(line(b, half(columns[b - 1])))
+[renewed] = solve(halves, [LOST])
 print("Renewed from them:")
 print(line(LOST, renewed))
 print("It is the lost column." if renewed == columns[LOST - 1] else "It is not the lost column.")
-print(f"Numbers taken: {taken}. Whole columns would have cost {BOXES * ROWS}.")
+print(f"Numbers taken: {len(halves(LEVELS))}. Whole columns would have cost {BOXES * ROWS}.")
+print("Boxes {} and {} are out. Decoded from the columns of the others:".format(*OUT))
+decoded = solve(kept, OUT)
+for b, column in zip(OUT, decoded):
+    print(line(b, column))
+same = decoded == [columns[b - 1] for b in OUT]
+print("They are the lost columns." if same else "They are not the lost columns.")

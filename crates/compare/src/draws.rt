@@ -1,5 +1,5 @@
 // Symbols that are drawn.
-ghost use Rattle.std.specs.Prelude.{◌<◌};
+ghost use Rattle.std.specs.Prelude.{◌≡◌, ◌<◌, IfOk, vec_len};
 
 use anyhow::Context;
 use field::Sums;
@@ -17,13 +17,17 @@ pub struct Draws {
 impl Draws {
     pub fn new(size: u32, state: u32) -> Draws
         requires { 0 < size }
+        ensures { result.size ≡ size }
     {
         Draws { size, state }
     }
 
     // One in 16 is the field's last number and one in 16 zero, which would hardly
     // come up among those of a large field.
-    fn number(&mut self) -> u32 {
+    fn number(&mut self) -> u32
+        ensures below { result < self.old.size }
+        ensures size { self.new.size ≡ self.old.size }
+    {
         self.state = ((self.state as u64 * 1103515245 + 12345) % (1 << 31)) as u32;
         match self.state >> 27 {
             0 => self.size - 1,
@@ -32,7 +36,9 @@ impl Draws {
         }
     }
 
-    pub fn symbols<F: Sums>(&mut self, alloc: Global, count: usize) -> anyhow::Result<Vec<F>> {
+    pub fn symbols<F: Sums>(&mut self, alloc: Global, count: usize) -> anyhow::Result<Vec<F>>
+        ensures { IfOk result (λ symbols. vec_len symbols ≡ count) }
+    {
         let mut symbols = Vec::new(alloc);
         for _ in 0..count {
             symbols.push(F::symbol(self.number()).context("no symbol has that number")?)?;
