@@ -41,6 +41,9 @@ module _ (s : ℕ → Bool) where
         | inr k ↦ let e : i ≡ suc j = omega arith in omega (arith, ap (standing s) e)
       ]
 
+  pub most_below : (b : ℕ) → standing s b ≤ b
+  most_below b = omega (arith, most_between 0 b (omega arith))
+
   narrow : (i j k : ℕ) → k ≤ j → AllStand s i j → AllStand s i k
   narrow i j k l h b m o = h b m (omega arith)
 

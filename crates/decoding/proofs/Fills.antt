@@ -1,16 +1,16 @@
 -- What filling in leads to: the file has the columns of all boxes but two, and it is the one file that has them. Assumes nothing.
-use Rattle.std.proofs.Common.{◌≡◌, ℕ, suc, ◌+◌, ◌^◌, ◌<◌, ◌≤◌, ◌≢◌, Bool, if◌then◌else◌, ◌==◌, nat_lt, sym, refl, ◌∙◌, subst, inl, inr, arith, le-ltb, lt-ltb}
+use Rattle.std.proofs.Common.{◌≡◌, ℕ, suc, ◌+◌, ◌^◌, ◌<◌, ◌≤◌, ◌≢◌, Bool, if◌then◌else◌, ◌==◌, nat_lt, sym, refl, ap, ◌∙◌, subst, inl, inr, arith, le-ltb, lt-ltb}
 use Rattle.std.proofs.lemmas.Bool.{cases_eq, cond-true, cond-false}
 use Rattle.code.specs.Codes.{Code, Column, File, Alike, data_boxes, parity1, parity2}
 use Rattle.code.specs.Laws.{HasColumns, Laws}
 use Rattle.code.specs.Standing.{FileOf}
-use Rattle.code.proofs.Columns.{has_columns}
+use Rattle.code.proofs.Columns.{column_data, has_columns}
 use Rattle.code.proofs.Sums.{if_same, if_other}
-use Rattle.decoding.specs.Missing.{Found, aside, held}
+use Rattle.decoding.specs.Missing.{KeptStanding, Found, aside, held}
 use Rattle.decoding.specs.Steps.{Replaced, ByFirst, BySecond, ByBoth}
 use Rattle.decoding.specs.declared.missing.Missing.{Missing}
 use Rattle.decoding.specs.declared.missing.Missing.TheVariants.{Nothing, One, Two}
-use Rattle.decoding.proofs.Counts.{aside_first, first_apart}
+use Rattle.decoding.proofs.Counts.{aside_first, first_apart, most_below}
 
 module _ {A : Type 0} (c : Code A) where
   abbrev n : ℕ
@@ -99,3 +99,8 @@ module _ {A : Type 0} (c : Code A) where
             (laws.any_two (aside n found).0 (aside n found).1 i.0 i.1 i.2).only g f' f
             (λ b l x y. fits b l (aside_first s n found h b l x y)) columns;
       }
+
+  -- each data box that stands is one of the first that do
+  pub kept_of : (s : ℕ → Bool) (f g : File c) (first second : Column c) → FileOf c s (held c f first second) g → KeptStanding c s f g
+  kept_of s f g first second of b l e a k =
+      sym (ap (λ C. C a) (column_data c g b l)) ∙ of.has b (omega arith) (e, omega (arith, most_below s b)) a k ∙ ap (λ C. C a) (held_data f first second b l)

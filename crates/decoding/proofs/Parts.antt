@@ -1,11 +1,15 @@
 -- One column of a file lent out, and what the file holds afterwards. Assumes nothing.
-use Rattle.std.proofs.Common.{◌≡◌, ℕ, ◌+◌, ◌-◌, ◌*◌, ◌<◌, ◌≤◌, List, ◌++◌, map, length, slice_index_or, take, drop, sym, ap, ap₂, ◌∙◌, subst, inl, inr, arith, rules, mul-le-mul_right}
+use Rattle.std.proofs.Common.{◌≡◌, ℕ, ◌+◌, ◌-◌, ◌*◌, ◌^◌, ◌<◌, ◌≤◌, List, ◌++◌, map, length, slice_index_or, take, drop, sym, ap, ap₂, ◌∙◌, subst, inl, inr, arith, rules, mul-le-mul_right}
 use Rattle.std.proofs.lemmas.Bool.{cases_order}
 use Rattle.std.proofs.lemmas.List.{take-map, drop-map, length-map, length-take, length-drop, map-append, get_or-take, get_or-drop, places}
 use Rattle.std.proofs.lemmas.Nat.{mul-add-lt}
 use borrow.Rule.Slice.PartMut.{put_mid}
 use Rattle.field.specs.Symbols.{Symbols}
-use Rattle.code.specs.Contents.{at, parts}
+use Rattle.code.specs.Codes.{full}
+use Rattle.code.specs.Contents.{added, at, parts}
+use Rattle.columns.specs.Parities.{share}
+use Rattle.columns.specs.declared.parity.Parity.{Parity}
+use Rattle.columns.proofs.Shares.{share_same}
 use Rattle.columns.proofs.Slices.{part}
 use Rattle.decoding.specs.Steps.{Replaced}
 
@@ -74,26 +78,37 @@ module _ (Y : Symbols) {S : Type 0} (v : S → Y.Symbol) where
   at_drop : (k : ℕ) (xs : List S) (i : ℕ) → at Y v (drop k xs) i ≡ at Y v xs (k + i)
   at_drop k xs i = ap (λ ys. slice_index_or ys i Y.ring.zero) (sym (drop-map v k xs)) ∙ get_or-drop k (map v xs) i Y.ring.zero
 
-  -- the column in place x of N, split off from those before and those after it
-  module _ (n N x rows : ℕ) (er : rows ≡ n) (xs : List S) (whole : length xs ≡ N * n) (hx : x < N) (before rest column after : List S)
+  -- the column in place x of 3m, split off from those before and those after it
+  module _ (m x rows : ℕ) (er : rows ≡ 2 ^ m) (xs : List S) (whole : length xs ≡ 3 * m * 2 ^ m) (hx : x < 3 * m) (before rest column after : List S)
       (eb : before ≡ take (x * rows) xs) (et : rest ≡ drop (x * rows) xs) (ec : column ≡ take rows rest) (ea : after ≡ drop rows rest) where
-    pub split_column : (a : ℕ) → a < n → at Y v column a ≡ parts Y v n xs x a
+    abbrev n : ℕ
+    n = 2 ^ m
+
+    split_column : (a : ℕ) → a < n → at Y v column a ≡ parts Y v n xs x a
     split_column a l =
         ap (λ ys. at Y v ys a) (ec ∙ ap (take rows) et) ∙ at_take rows (drop (x * rows) xs) a (omega (arith, er)) ∙ at_drop (x * rows) xs a
         ∙ ap (λ r. at Y v xs (x * r + a)) er
 
     pub split_before : (b : ℕ) → b < x → (a : ℕ) → a < n → parts Y v rows before b a ≡ parts Y v n xs b a
     split_before b h a l =
-        ap (λ r. parts Y v r before b a) er ∙ ap (λ ys. at Y v ys (b * n + a)) (eb ∙ ap (λ r. take (x * r) xs) er) ∙ at_take (x * n) xs (b * n + a) (omega (arith, mul-add-lt b n a x h l))
+        ap (λ r. parts Y v r before b a) er ∙ ap (λ ys. at Y v ys (b * n + a)) (eb ∙ ap (λ r. take (x * r) xs) er)
+        ∙ at_take (x * n) xs (b * n + a) (omega (arith, mul-add-lt b n a x h l))
 
     pub split_after : (b : ℕ) → x < b → (a : ℕ) → a < n → parts Y v rows after (b - x - 1) a ≡ parts Y v n xs b a
     split_after b h a l =
-        let whole : x + 1 + (b - x - 1) ≡ b = omega arith in
+        let between : x + 1 + (b - x - 1) ≡ b = omega arith in
         ap (λ r. parts Y v r after (b - x - 1) a) er ∙ ap (λ ys. at Y v ys ((b - x - 1) * n + a)) (ea ∙ ap₂ drop er et ∙ ap (λ r. drop n (drop (x * r) xs)) er)
         ∙ at_drop n (drop (x * n) xs) ((b - x - 1) * n + a) ∙ at_drop (x * n) xs (n + ((b - x - 1) * n + a))
-        ∙ ap (at Y v xs) (omega (arith, ap (λ k. k * n) whole))
+        ∙ ap (at Y v xs) (omega (arith, ap (λ k. k * n) between))
 
-    pub split_replaced : (ys : List S) (C : ℕ → Y.Symbol) → length ys ≡ n → ((a : ℕ) → a < n → at Y v ys a ≡ C a) → Replaced n x (parts Y v n xs) C (parts Y v n (before ++ (ys ++ after)))
+    split_replaced : (ys : List S) (C : ℕ → Y.Symbol) → length ys ≡ n → ((a : ℕ) → a < n → at Y v ys a ≡ C a) → Replaced n x (parts Y v n xs) C (parts Y v n (before ++ (ys ++ after)))
     split_replaced ys C e holds =
         subst (λ zs. Replaced n x (parts Y v n xs) C (parts Y v n zs)) (sym (ap₂ (λ bs zs. bs ++ (ys ++ zs)) eb (ea ∙ ap (drop rows) et)))
         (replaced n x (x * rows) rows xs ys C (ap (λ r. x * r) er) er (omega (arith, whole, mul-le-mul_right n hx)) e holds)
+
+    -- the share of another column, which was lent beside it, is added
+    pub split_added : 1 ≤ m → (which : Parity) (b : ℕ) (ys other : List S) → length ys ≡ n → ((a : ℕ) → a < n → at Y v other a ≡ parts Y v n xs b a)
+        → ((a : ℕ) → a < n → at Y v ys a ≡ added Y (at Y v column) (share which (full Y m) b (at Y v other)) a)
+        → Replaced n x (parts Y v n xs) (added Y (parts Y v n xs x) (share which (full Y m) b (parts Y v n xs b))) (parts Y v n (before ++ (ys ++ after)))
+    split_added some which b ys other e same sums =
+        split_replaced ys _ e λ a l. sums a l ∙ ap₂ Y.ring.plus (split_column a l) (share_same which (full Y m) b (at Y v other) (parts Y v n xs b) some same a l)

@@ -1,7 +1,7 @@
 -- Which boxes are out, and what a cabinet holds in the others. Assumes nothing.
 use Rattle.std.specs.Prelude.{◌≡◌, ℕ, suc, ◌+◌, ◌<◌, ◌≤◌, Bool, true, false, not, ◌==◌, if◌then◌else◌, nat_lt, List, map}
 use Rattle.std.specs.List.{list_any}
-use Rattle.code.specs.Codes.{Code, Column, File, data_boxes}
+use Rattle.code.specs.Codes.{Code, Column, File, data_boxes, Alike}
 use Rattle.code.specs.Standing.{standing}
 use Rattle.refusal.specs.Refusals.{Reason, earliest, no_box, where_holds}
 use Rattle.refusal.specs.declared.Refusal.TheVariants.{ManyOut}
@@ -19,6 +19,10 @@ wrong_boxes n out = earliest (map (no_box n) out)
 -- of n boxes, three or more are out
 abbrev pub many_out : ℕ → List ℕ → Reason
 many_out n out = where_holds (nat_lt (standing (stands out) n + 2) n) ManyOut
+
+-- the file g has the columns that f has in the data boxes that stand
+abbrev pub KeptStanding : {A : Type 0} (c : Code A) → (ℕ → Bool) → File c → File c → Type 0
+KeptStanding c stands f g = (b : ℕ) → b < data_boxes c → stands b ≡ true → Alike c (g b) (f b)
 
 -- the columns of the data boxes and of the two parity boxes
 abbrev pub held : {A : Type 0} (c : Code A) → File c → Column c → Column c → ℕ → Column c

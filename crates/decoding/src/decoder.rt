@@ -1,12 +1,12 @@
 // The columns of the boxes that are out, from those of the others.
-ghost use Rattle.std.specs.Prelude.{◌≡◌, ℕ, ◌+◌, ◌*◌, ◌^◌, ◌<◌, suc, true, false, if◌then◌else◌, ◌==◌, [], ◌∷◌, length, MatchResult};
+ghost use Rattle.std.specs.Prelude.{◌≡◌, ℕ, ◌+◌, ◌*◌, ◌^◌, ◌<◌, suc, true, false, if◌then◌else◌, ◌==◌, [], ◌∷◌, length, IfOk, MatchResult};
 ghost use Rattle.code.specs.Codes.{full, parity1, parity2};
 ghost use Rattle.code.specs.Contents.{Holds, at, parts};
 ghost use Rattle.code.specs.Laws.{HasColumns};
 ghost use Rattle.code.specs.Standing.{FileOf};
 ghost use Rattle.columns.specs.Parities.{parity as parity_of};
 ghost use Rattle.refusal.specs.Refusals.{earliest, few_marks, refusal, wrong_lengths, wrong_size};
-ghost use Rattle.decoding.specs.Missing.{held, many_out, stands, wrong_boxes};
+ghost use Rattle.decoding.specs.Missing.{KeptStanding, held, many_out, stands, wrong_boxes};
 ghost use Rattle.decoding.specs.Steps.{Replaced};
 
 use crate::filling::{by_both, by_first, by_second};
@@ -134,6 +134,7 @@ pub fn decode<F: Quotients>(
 ) -> Result<(), Refusal>
     ensures answer { refusal result ≡ earliest (wrong_size m ∷ few_marks F.symbols m ∷ wrong_lengths ((length file.old, 3 * m * 2 ^ m) ∷ (length first.old, 2 ^ m) ∷ (length second.old, 2 ^ m) ∷ []) ∷ wrong_boxes (3 * m + 2) out.now ∷ many_out (3 * m + 2) out.now ∷ []) }
     ensures file { MatchResult result (λ _. FileOf (full F.symbols m) (stands out.now) (held (full F.symbols m) (parts F.symbols F.value (2 ^ m) file.old) (at F.symbols F.value first.old) (at F.symbols F.value second.old)) (parts F.symbols F.value (2 ^ m) file.new)) (λ _. file.new ≡ file.old) }
+    ensures kept { IfOk result (λ _. KeptStanding (full F.symbols m) (stands out.now) (parts F.symbols F.value (2 ^ m) file.old) (parts F.symbols F.value (2 ^ m) file.new)) }
     ensures first { MatchResult result (λ _. (stands out.now (3 * m) ≡ false → Holds F.symbols F.value (2 ^ m) first.new (parity1 (full F.symbols m) (parts F.symbols F.value (2 ^ m) file.new))) × (stands out.now (3 * m) ≡ true → first.new ≡ first.old)) (λ _. first.new ≡ first.old) }
     ensures second { MatchResult result (λ _. (stands out.now (3 * m + 1) ≡ false → Holds F.symbols F.value (2 ^ m) second.new (parity2 (full F.symbols m) (parts F.symbols F.value (2 ^ m) file.new))) × (stands out.now (3 * m + 1) ≡ true → second.new ≡ second.old)) (λ _. second.new ≡ second.old) }
 {

@@ -1,8 +1,5 @@
-use Rattle.std.proofs.Common.{◌≡◌, ◌+◌, ◌-◌, ◌*◌, ◌^◌, sym, ap, ap₂, ◌∙◌, arith, mul-le-mul_right}
-use Rattle.code.specs.Codes.{full}
-use Rattle.code.specs.Contents.{at, parts}
-use Rattle.columns.proofs.Shares.{share_same}
-use Rattle.decoding.proofs.Parts.{split_column, split_before, split_after, split_replaced}
+use Rattle.std.proofs.Common.{◌≡◌, ◌+◌, ◌-◌, ◌*◌, sym, ap, ◌∙◌, arith, mul-le-mul_right}
+use Rattle.decoding.proofs.Parts.{split_before, split_after, split_added}
 use Rattle.decoding.proofs.within.add_within.Goals as goal
 
 pub part-requires-else-b-x : goal.part-requires-else-b-x
@@ -20,16 +17,13 @@ returns-then-b-x g c =
     let size = c.args.cabinet.now.size in
     let rows = c.rows-rows.ensures.value in
     let file = c.args.file.now in
-    let x = c.args.x in
-    let b = c.args.b in
     let cut = c.split_at_mut-before.ensures in
     let again = c.split_at_mut-column.ensures in
     let r = c.requires in
-    split_replaced Y v _ (3 * size.m) x _ rows file r.whole r.data _ _ _ _ cut.front cut.back again.front again.back c.add_share.new.sum _ (c.add_share.auto.sum ∙ again.front_len ∙ rows)
-    λ a l. c.add_share.ensures a l
-    ∙ ap₂ Y.ring.plus (split_column Y v _ (3 * size.m) x _ rows file r.whole r.data _ _ _ _ cut.front cut.back again.front again.back a l)
-    (share_same c.args.which (full Y size.m) b (at Y v c.part.result.now) (parts Y v (2 ^ size.m) file b) size.some
-    (λ d k. c.part.ensures.column d (omega (arith, rows)) ∙ split_before Y v _ (3 * size.m) x _ rows file r.whole r.data _ _ _ _ cut.front cut.back again.front again.back b c.if-b-x.true d k) a l)
+    let part = c.part.ensures in
+    split_added Y v size.m c.args.x _ rows file r.whole r.data _ _ _ _ cut.front cut.back again.front again.back size.some c.args.which c.args.b _ _ (c.add_share.auto.sum ∙ again.front_len ∙ rows)
+    (λ a l. part.column a (omega (arith, rows)) ∙ split_before Y v size.m c.args.x _ rows file r.whole r.data _ _ _ _ cut.front cut.back again.front again.back c.args.b c.if-b-x.true a l)
+    c.add_share.ensures
 
 pub returns-else-b-x : goal.returns-else-b-x
 returns-else-b-x g c =
@@ -38,13 +32,10 @@ returns-else-b-x g c =
     let size = c.args.cabinet.now.size in
     let rows = c.rows-rows.ensures.value in
     let file = c.args.file.now in
-    let x = c.args.x in
-    let b = c.args.b in
     let cut = c.split_at_mut-before.ensures in
     let again = c.split_at_mut-column.ensures in
     let r = c.requires in
-    split_replaced Y v _ (3 * size.m) x _ rows file r.whole r.data _ _ _ _ cut.front cut.back again.front again.back c.add_share-else-b-x.new.sum _ (c.add_share-else-b-x.auto.sum ∙ again.front_len ∙ rows)
-    λ a l. c.add_share-else-b-x.ensures a l
-    ∙ ap₂ Y.ring.plus (split_column Y v _ (3 * size.m) x _ rows file r.whole r.data _ _ _ _ cut.front cut.back again.front again.back a l)
-    (share_same c.args.which (full Y size.m) b (at Y v c.part-else-b-x.result.now) (parts Y v (2 ^ size.m) file b) size.some
-    (λ d k. c.part-else-b-x.ensures.column d (omega (arith, rows)) ∙ split_after Y v _ (3 * size.m) x _ rows file r.whole r.data _ _ _ _ cut.front cut.back again.front again.back b (omega (arith, c.if-b-x.false, r.two)) d k) a l)
+    let part = c.part-else-b-x.ensures in
+    split_added Y v size.m c.args.x _ rows file r.whole r.data _ _ _ _ cut.front cut.back again.front again.back size.some c.args.which c.args.b _ _ (c.add_share-else-b-x.auto.sum ∙ again.front_len ∙ rows)
+    (λ a l. part.column a (omega (arith, rows)) ∙ split_after Y v size.m c.args.x _ rows file r.whole r.data _ _ _ _ cut.front cut.back again.front again.back c.args.b (omega (arith, c.if-b-x.false, r.two)) a l)
+    c.add_share-else-b-x.ensures
