@@ -19,10 +19,10 @@ use refusal::{Refusal, fitting};
 
 // Copies a column into place x of a file.
 fn place<F: Sums>(cabinet: &Cabinet<F>, x: usize, column: &[F], file: &mut [F])
-    requires whole { length file.old ≡ 3 * cabinet.now.size.m * 2 ^ cabinet.now.size.m }
+    requires whole { let m = cabinet.now.size.m in length file.old ≡ 3 * m * 2 ^ m }
     requires rows { length column.now ≡ 2 ^ cabinet.now.size.m }
     requires data { x < 3 * cabinet.now.size.m }
-    ensures { Replaced (2 ^ cabinet.now.size.m) x (parts F.symbols F.value (2 ^ cabinet.now.size.m) file.old) (at F.symbols F.value column.now) (parts F.symbols F.value (2 ^ cabinet.now.size.m) file.new) }
+    ensures { let m = cabinet.now.size.m in let columns = parts F.symbols F.value (2 ^ m) in Replaced (2 ^ m) x (columns file.old) (at F.symbols F.value column.now) (columns file.new) }
 {
     let rows = cabinet.size.rows();
     file[x * rows..(x + 1) * rows].copy_from_slice(column);
@@ -31,10 +31,10 @@ fn place<F: Sums>(cabinet: &Cabinet<F>, x: usize, column: &[F], file: &mut [F])
 // One box is out, in place x, and the second parity box is left aside: if it
 // holds data, the first parity tells its column.
 fn fill_one<F: Sums>(cabinet: &Cabinet<F>, x: usize, first: &[F], file: &mut [F])
-    requires whole { length file.old ≡ 3 * cabinet.now.size.m * 2 ^ cabinet.now.size.m }
+    requires whole { let m = cabinet.now.size.m in length file.old ≡ 3 * m * 2 ^ m }
     requires rows { length first.now ≡ 2 ^ cabinet.now.size.m }
     requires inside { x < 3 * cabinet.now.size.m + 2 }
-    ensures { (second : ℕ → F.symbols.Symbol) → HasColumns (full F.symbols cabinet.now.size.m) (if x == suc (3 * cabinet.now.size.m) then 3 * cabinet.now.size.m else x) (suc (3 * cabinet.now.size.m)) (parts F.symbols F.value (2 ^ cabinet.now.size.m) file.new) (held (full F.symbols cabinet.now.size.m) (parts F.symbols F.value (2 ^ cabinet.now.size.m) file.old) (at F.symbols F.value first.now) second) }
+    ensures { let m = cabinet.now.size.m in let columns = parts F.symbols F.value (2 ^ m) in let c = full F.symbols m in (second : ℕ → F.symbols.Symbol) → HasColumns c (if x == suc (3 * m) then 3 * m else x) (suc (3 * m)) (columns file.new) (held c (columns file.old) (at F.symbols F.value first.now) second) }
 {
     if x < cabinet.size.boxes() {
         place(cabinet, x, first, file);
@@ -51,12 +51,12 @@ fn fill_two<F: Quotients>(
     second: &[F],
     file: &mut [F],
 )
-    requires whole { length file.old ≡ 3 * cabinet.now.size.m * 2 ^ cabinet.now.size.m }
+    requires whole { let m = cabinet.now.size.m in length file.old ≡ 3 * m * 2 ^ m }
     requires first_rows { length first.now ≡ 2 ^ cabinet.now.size.m }
     requires second_rows { length second.now ≡ 2 ^ cabinet.now.size.m }
     requires order { x < y }
     requires last { y < 3 * cabinet.now.size.m + 2 }
-    ensures { HasColumns (full F.symbols cabinet.now.size.m) x y (parts F.symbols F.value (2 ^ cabinet.now.size.m) file.new) (held (full F.symbols cabinet.now.size.m) (parts F.symbols F.value (2 ^ cabinet.now.size.m) file.old) (at F.symbols F.value first.now) (at F.symbols F.value second.now)) }
+    ensures { let m = cabinet.now.size.m in let columns = parts F.symbols F.value (2 ^ m) in let c = full F.symbols m in HasColumns c x y (columns file.new) (held c (columns file.old) (at F.symbols F.value first.now) (at F.symbols F.value second.now)) }
 {
     let boxes = cabinet.size.boxes();
     if y < boxes {
@@ -83,11 +83,11 @@ fn fill_data<F: Quotients>(
     second: &[F],
     file: &mut [F],
 ) -> Result<(), Refusal>
-    requires whole { length file.old ≡ 3 * cabinet.now.size.m * 2 ^ cabinet.now.size.m }
+    requires whole { let m = cabinet.now.size.m in length file.old ≡ 3 * m * 2 ^ m }
     requires first_rows { length first.now ≡ 2 ^ cabinet.now.size.m }
     requires second_rows { length second.now ≡ 2 ^ cabinet.now.size.m }
     ensures answer { refusal result ≡ many_out (3 * cabinet.now.size.m + 2) out.now }
-    ensures file { MatchResult result (λ _. FileOf (full F.symbols cabinet.now.size.m) (stands out.now) (held (full F.symbols cabinet.now.size.m) (parts F.symbols F.value (2 ^ cabinet.now.size.m) file.old) (at F.symbols F.value first.now) (at F.symbols F.value second.now)) (parts F.symbols F.value (2 ^ cabinet.now.size.m) file.new)) (λ _. file.new ≡ file.old) }
+    ensures file { let m = cabinet.now.size.m in let columns = parts F.symbols F.value (2 ^ m) in let c = full F.symbols m in MatchResult result (λ _. FileOf c (stands out.now) (held c (columns file.old) (at F.symbols F.value first.now) (at F.symbols F.value second.now)) (columns file.new)) (λ _. file.new ≡ file.old) }
 {
     // By the code's laws there is exactly one such file.
     code_stands::<F>();
@@ -108,10 +108,10 @@ fn fill_parity<F: Sums>(
     file: &[F],
     column: &mut [F],
 )
-    requires whole { length file.now ≡ 3 * cabinet.now.size.m * 2 ^ cabinet.now.size.m }
+    requires whole { let m = cabinet.now.size.m in length file.now ≡ 3 * m * 2 ^ m }
     requires rows { length column.old ≡ 2 ^ cabinet.now.size.m }
     requires inside { b < 20 }
-    ensures out { stands out.now b ≡ false → Holds F.symbols F.value (2 ^ cabinet.now.size.m) column.new (parity_of which (full F.symbols cabinet.now.size.m) (parts F.symbols F.value (2 ^ cabinet.now.size.m) file.now)) }
+    ensures out { let m = cabinet.now.size.m in stands out.now b ≡ false → Holds F.symbols F.value (2 ^ m) column.new (parity_of which (full F.symbols m) (parts F.symbols F.value (2 ^ m) file.now)) }
     ensures kept { stands out.now b ≡ true → column.new ≡ column.old }
 {
     if is_out(out, b) {
@@ -133,8 +133,8 @@ pub fn decode<F: Quotients>(
     second: &mut [F],
 ) -> Result<(), Refusal>
     ensures answer { refusal result ≡ earliest (wrong_size m ∷ few_marks F.symbols m ∷ wrong_lengths ((length file.old, 3 * m * 2 ^ m) ∷ (length first.old, 2 ^ m) ∷ (length second.old, 2 ^ m) ∷ []) ∷ wrong_boxes (3 * m + 2) out.now ∷ many_out (3 * m + 2) out.now ∷ []) }
-    ensures file { MatchResult result (λ _. FileOf (full F.symbols m) (stands out.now) (held (full F.symbols m) (parts F.symbols F.value (2 ^ m) file.old) (at F.symbols F.value first.old) (at F.symbols F.value second.old)) (parts F.symbols F.value (2 ^ m) file.new)) (λ _. file.new ≡ file.old) }
-    ensures kept { IfOk result (λ _. KeptStanding (full F.symbols m) (stands out.now) (parts F.symbols F.value (2 ^ m) file.old) (parts F.symbols F.value (2 ^ m) file.new)) }
+    ensures file { let columns = parts F.symbols F.value (2 ^ m) in let c = full F.symbols m in MatchResult result (λ _. FileOf c (stands out.now) (held c (columns file.old) (at F.symbols F.value first.old) (at F.symbols F.value second.old)) (columns file.new)) (λ _. file.new ≡ file.old) }
+    ensures kept { let columns = parts F.symbols F.value (2 ^ m) in IfOk result (λ _. KeptStanding (full F.symbols m) (stands out.now) (columns file.old) (columns file.new)) }
     ensures first { MatchResult result (λ _. (stands out.now (3 * m) ≡ false → Holds F.symbols F.value (2 ^ m) first.new (parity1 (full F.symbols m) (parts F.symbols F.value (2 ^ m) file.new))) × (stands out.now (3 * m) ≡ true → first.new ≡ first.old)) (λ _. first.new ≡ first.old) }
     ensures second { MatchResult result (λ _. (stands out.now (3 * m + 1) ≡ false → Holds F.symbols F.value (2 ^ m) second.new (parity2 (full F.symbols m) (parts F.symbols F.value (2 ^ m) file.new))) × (stands out.now (3 * m + 1) ≡ true → second.new ≡ second.old)) (λ _. second.new ≡ second.old) }
 {

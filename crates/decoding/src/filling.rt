@@ -11,9 +11,9 @@ use field::{Quotients, Sums};
 
 // The data box in place x is missing, and the first parity column stands there.
 pub(crate) fn by_first<F: Sums>(cabinet: &Cabinet<F>, x: usize, file: &mut [F])
-    requires whole { length file.old ≡ 3 * cabinet.now.size.m * 2 ^ cabinet.now.size.m }
+    requires whole { let m = cabinet.now.size.m in length file.old ≡ 3 * m * 2 ^ m }
     requires data { x < 3 * cabinet.now.size.m }
-    ensures { ByFirst (full F.symbols cabinet.now.size.m) x (parts F.symbols F.value (2 ^ cabinet.now.size.m) file.old) (parts F.symbols F.value (2 ^ cabinet.now.size.m) file.new) }
+    ensures { let m = cabinet.now.size.m in let columns = parts F.symbols F.value (2 ^ m) in ByFirst (full F.symbols m) x (columns file.old) (columns file.new) }
 {
     // The second parity box, beyond the data boxes, is left aside too.
     take_others(cabinet, Parity::First, x, cabinet.size.boxes() + 1, x, file);
@@ -21,9 +21,9 @@ pub(crate) fn by_first<F: Sums>(cabinet: &Cabinet<F>, x: usize, file: &mut [F])
 
 // The data box in place x is missing, and the second parity column stands there.
 pub(crate) fn by_second<F: Quotients>(cabinet: &Cabinet<F>, x: usize, file: &mut [F])
-    requires whole { length file.old ≡ 3 * cabinet.now.size.m * 2 ^ cabinet.now.size.m }
+    requires whole { let m = cabinet.now.size.m in length file.old ≡ 3 * m * 2 ^ m }
     requires data { x < 3 * cabinet.now.size.m }
-    ensures { BySecond (full F.symbols cabinet.now.size.m) x (parts F.symbols F.value (2 ^ cabinet.now.size.m) file.old) (parts F.symbols F.value (2 ^ cabinet.now.size.m) file.new) }
+    ensures { let m = cabinet.now.size.m in let columns = parts F.symbols F.value (2 ^ m) in BySecond (full F.symbols m) x (columns file.old) (columns file.new) }
 {
     take_others(cabinet, Parity::Second, x, cabinet.size.boxes(), x, file);
     undo_within(cabinet, x, file);
@@ -32,11 +32,11 @@ pub(crate) fn by_second<F: Quotients>(cabinet: &Cabinet<F>, x: usize, file: &mut
 // The data boxes in the places x and y are missing; the first parity column
 // stands in place x, and the second in place y.
 pub(crate) fn by_both<F: Quotients>(cabinet: &Cabinet<F>, x: usize, y: usize, file: &mut [F])
-    requires whole { length file.old ≡ 3 * cabinet.now.size.m * 2 ^ cabinet.now.size.m }
+    requires whole { let m = cabinet.now.size.m in length file.old ≡ 3 * m * 2 ^ m }
     requires first { x < 3 * cabinet.now.size.m }
     requires second { y < 3 * cabinet.now.size.m }
     requires two { x ≢ y }
-    ensures { ByBoth (full F.symbols cabinet.now.size.m) x y (parts F.symbols F.value (2 ^ cabinet.now.size.m) file.old) (parts F.symbols F.value (2 ^ cabinet.now.size.m) file.new) }
+    ensures { let m = cabinet.now.size.m in let columns = parts F.symbols F.value (2 ^ m) in ByBoth (full F.symbols m) x y (columns file.old) (columns file.new) }
 {
     // Now x holds the sum of the two missing columns, and y that of their images.
     take_others(cabinet, Parity::First, x, y, x, file);

@@ -40,7 +40,7 @@ fn turn<F: Sums>(along: &Digit, by: &Digit, lower: Matrix<F>, upper: Matrix<F>, 
 // Writes the column that the blocks of the data box in place x lead to the one that stood there.
 pub(crate) fn undo_blocks<F: Quotients>(cabinet: &Cabinet<F>, x: usize, column: &mut [F])
     requires { length column.old ≡ 2 ^ cabinet.now.size.m }
-    ensures { Holds F.symbols F.value (2 ^ cabinet.now.size.m) column.old (image (full F.symbols cabinet.now.size.m) x (at F.symbols F.value column.new)) }
+    ensures { let m = cabinet.now.size.m in Holds F.symbols F.value (2 ^ m) column.old (image (full F.symbols m) x (at F.symbols F.value column.new)) }
 {
     let digit = cabinet.size.digit(x);
     F::divides();
@@ -57,8 +57,8 @@ fn solve_same<F: Quotients>(cabinet: &Cabinet<F>, x: usize, y: usize, column: &m
     requires first { x < 3 * cabinet.now.size.m }
     requires second { y < 3 * cabinet.now.size.m }
     requires two { x ≢ y }
-    requires same { shift (full F.symbols cabinet.now.size.m) x ≡ shift (full F.symbols cabinet.now.size.m) y }
-    ensures { Holds F.symbols F.value (2 ^ cabinet.now.size.m) column.old (λ a. ◌∸◌ F.symbols.ring (image (full F.symbols cabinet.now.size.m) x (at F.symbols F.value column.new) a) (image (full F.symbols cabinet.now.size.m) y (at F.symbols F.value column.new) a)) }
+    requires same { let m = cabinet.now.size.m in let c = full F.symbols m in shift c x ≡ shift c y }
+    ensures { let m = cabinet.now.size.m in let c = full F.symbols m in Holds F.symbols F.value (2 ^ m) column.old (λ a. ◌∸◌ F.symbols.ring (image c x (at F.symbols F.value column.new) a) (image c y (at F.symbols F.value column.new) a)) }
 {
     let digit = cabinet.size.digit(x);
     let kind = cabinet.block(y).kind;
@@ -74,8 +74,8 @@ fn solve_same<F: Quotients>(cabinet: &Cabinet<F>, x: usize, y: usize, column: &m
 // the blocks of the first, less that number, are to be undone.
 fn solve_apart<F: Quotients>(cabinet: &Cabinet<F>, x: usize, y: usize, column: &mut [F])
     requires rows { length column.old ≡ 2 ^ cabinet.now.size.m }
-    requires apart { shift (full F.symbols cabinet.now.size.m) x ≢ shift (full F.symbols cabinet.now.size.m) y }
-    ensures { Holds F.symbols F.value (2 ^ cabinet.now.size.m) column.old (λ a. ◌∸◌ F.symbols.ring (image (full F.symbols cabinet.now.size.m) x (at F.symbols F.value column.new) a) (image (full F.symbols cabinet.now.size.m) y (at F.symbols F.value column.new) a)) }
+    requires apart { let m = cabinet.now.size.m in let c = full F.symbols m in shift c x ≢ shift c y }
+    ensures { let m = cabinet.now.size.m in let c = full F.symbols m in Holds F.symbols F.value (2 ^ m) column.old (λ a. ◌∸◌ F.symbols.ring (image c x (at F.symbols F.value column.new) a) (image c y (at F.symbols F.value column.new) a)) }
 {
     let along = cabinet.size.digit(x);
     let by = cabinet.size.digit(y);
@@ -107,7 +107,7 @@ pub(crate) fn solve_difference<F: Quotients>(
     requires first { x < 3 * cabinet.now.size.m }
     requires second { y < 3 * cabinet.now.size.m }
     requires two { x ≢ y }
-    ensures { Holds F.symbols F.value (2 ^ cabinet.now.size.m) column.old (λ a. ◌∸◌ F.symbols.ring (image (full F.symbols cabinet.now.size.m) x (at F.symbols F.value column.new) a) (image (full F.symbols cabinet.now.size.m) y (at F.symbols F.value column.new) a)) }
+    ensures { let m = cabinet.now.size.m in let c = full F.symbols m in Holds F.symbols F.value (2 ^ m) column.old (λ a. ◌∸◌ F.symbols.ring (image c x (at F.symbols F.value column.new) a) (image c y (at F.symbols F.value column.new) a)) }
 {
     if cabinet.size.digit(x).place == cabinet.size.digit(y).place {
         solve_same(cabinet, x, y, column);

@@ -15,7 +15,7 @@ fn add_share<F: Sums>(cabinet: &Cabinet<F>, which: Parity, b: usize, sum: &mut [
     requires sums { length sum.old ≡ 2 ^ cabinet.now.size.m }
     requires rows { length column.now ≡ 2 ^ cabinet.now.size.m }
     requires data { b < 3 * cabinet.now.size.m }
-    ensures { Holds F.symbols F.value (2 ^ cabinet.now.size.m) sum.new (added F.symbols (at F.symbols F.value sum.old) (share which (full F.symbols cabinet.now.size.m) b (at F.symbols F.value column.now))) }
+    ensures { let m = cabinet.now.size.m in Holds F.symbols F.value (2 ^ m) sum.new (added F.symbols (at F.symbols F.value sum.old) (share which (full F.symbols m) b (at F.symbols F.value column.now))) }
 {
     match which {
         Parity::First => add_column(sum, column).unwrap(),
@@ -25,9 +25,9 @@ fn add_share<F: Sums>(cabinet: &Cabinet<F>, which: Parity, b: usize, sum: &mut [
 
 // Makes the column in place x its negative.
 fn negate_within<F: Sums>(cabinet: &Cabinet<F>, x: usize, file: &mut [F])
-    requires whole { length file.old ≡ 3 * cabinet.now.size.m * 2 ^ cabinet.now.size.m }
+    requires whole { let m = cabinet.now.size.m in length file.old ≡ 3 * m * 2 ^ m }
     requires data { x < 3 * cabinet.now.size.m }
-    ensures { Replaced (2 ^ cabinet.now.size.m) x (parts F.symbols F.value (2 ^ cabinet.now.size.m) file.old) (λ a. F.symbols.ring.negative (parts F.symbols F.value (2 ^ cabinet.now.size.m) file.old x a)) (parts F.symbols F.value (2 ^ cabinet.now.size.m) file.new) }
+    ensures { let m = cabinet.now.size.m in let columns = parts F.symbols F.value (2 ^ m) in Replaced (2 ^ m) x (columns file.old) (λ a. F.symbols.ring.negative (columns file.old x a)) (columns file.new) }
 {
     let rows = cabinet.size.rows();
     negate(&mut file[x * rows..(x + 1) * rows]);
@@ -44,11 +44,11 @@ fn part<F: Sums>(columns: &[F], rows: usize, b: usize) -> &[F]
 
 // Adds the share of the column in place b to the column in place x.
 fn add_within<F: Sums>(cabinet: &Cabinet<F>, which: Parity, b: usize, x: usize, file: &mut [F])
-    requires whole { length file.old ≡ 3 * cabinet.now.size.m * 2 ^ cabinet.now.size.m }
+    requires whole { let m = cabinet.now.size.m in length file.old ≡ 3 * m * 2 ^ m }
     requires data { x < 3 * cabinet.now.size.m }
     requires other { b < 3 * cabinet.now.size.m }
     requires two { b ≢ x }
-    ensures { Replaced (2 ^ cabinet.now.size.m) x (parts F.symbols F.value (2 ^ cabinet.now.size.m) file.old) (added F.symbols (parts F.symbols F.value (2 ^ cabinet.now.size.m) file.old x) (share which (full F.symbols cabinet.now.size.m) b (parts F.symbols F.value (2 ^ cabinet.now.size.m) file.old b))) (parts F.symbols F.value (2 ^ cabinet.now.size.m) file.new) }
+    ensures { let m = cabinet.now.size.m in let columns = parts F.symbols F.value (2 ^ m) in Replaced (2 ^ m) x (columns file.old) (added F.symbols (columns file.old x) (share which (full F.symbols m) b (columns file.old b))) (columns file.new) }
 {
     let rows = cabinet.size.rows();
     let (before, rest) = file.split_at_mut(x * rows);
@@ -69,10 +69,10 @@ fn add_others<F: Sums>(
     into: usize,
     file: &mut [F],
 )
-    requires whole { length file.old ≡ 3 * cabinet.now.size.m * 2 ^ cabinet.now.size.m }
+    requires whole { let m = cabinet.now.size.m in length file.old ≡ 3 * m * 2 ^ m }
     requires data { into < 3 * cabinet.now.size.m }
     requires one { (b : ℕ) → b ≢ x → b ≢ y → b ≢ into }
-    ensures { Replaced (2 ^ cabinet.now.size.m) into (parts F.symbols F.value (2 ^ cabinet.now.size.m) file.old) (added F.symbols (parts F.symbols F.value (2 ^ cabinet.now.size.m) file.old into) (others which (full F.symbols cabinet.now.size.m) x y (parts F.symbols F.value (2 ^ cabinet.now.size.m) file.old))) (parts F.symbols F.value (2 ^ cabinet.now.size.m) file.new) }
+    ensures { let m = cabinet.now.size.m in let columns = parts F.symbols F.value (2 ^ m) in Replaced (2 ^ m) into (columns file.old) (added F.symbols (columns file.old into) (others which (full F.symbols m) x y (columns file.old))) (columns file.new) }
 {
     for b in 0..cabinet.size.boxes() {
         if b != x && b != y {
@@ -91,10 +91,10 @@ pub(crate) fn take_others<F: Sums>(
     into: usize,
     file: &mut [F],
 )
-    requires whole { length file.old ≡ 3 * cabinet.now.size.m * 2 ^ cabinet.now.size.m }
+    requires whole { let m = cabinet.now.size.m in length file.old ≡ 3 * m * 2 ^ m }
     requires data { into < 3 * cabinet.now.size.m }
     requires one { (b : ℕ) → b ≢ x → b ≢ y → b ≢ into }
-    ensures { Replaced (2 ^ cabinet.now.size.m) into (parts F.symbols F.value (2 ^ cabinet.now.size.m) file.old) (less F.symbols.ring (parts F.symbols F.value (2 ^ cabinet.now.size.m) file.old into) (others which (full F.symbols cabinet.now.size.m) x y (parts F.symbols F.value (2 ^ cabinet.now.size.m) file.old))) (parts F.symbols F.value (2 ^ cabinet.now.size.m) file.new) }
+    ensures { let m = cabinet.now.size.m in let columns = parts F.symbols F.value (2 ^ m) in Replaced (2 ^ m) into (columns file.old) (less F.symbols.ring (columns file.old into) (others which (full F.symbols m) x y (columns file.old))) (columns file.new) }
 {
     negate_within(cabinet, into, file);
     add_others(cabinet, which, x, y, into, file);
@@ -109,11 +109,11 @@ pub(crate) fn take_within<F: Sums>(
     x: usize,
     file: &mut [F],
 )
-    requires whole { length file.old ≡ 3 * cabinet.now.size.m * 2 ^ cabinet.now.size.m }
+    requires whole { let m = cabinet.now.size.m in length file.old ≡ 3 * m * 2 ^ m }
     requires data { x < 3 * cabinet.now.size.m }
     requires other { b < 3 * cabinet.now.size.m }
     requires two { b ≢ x }
-    ensures { Replaced (2 ^ cabinet.now.size.m) x (parts F.symbols F.value (2 ^ cabinet.now.size.m) file.old) (less F.symbols.ring (parts F.symbols F.value (2 ^ cabinet.now.size.m) file.old x) (share which (full F.symbols cabinet.now.size.m) b (parts F.symbols F.value (2 ^ cabinet.now.size.m) file.old b))) (parts F.symbols F.value (2 ^ cabinet.now.size.m) file.new) }
+    ensures { let m = cabinet.now.size.m in let columns = parts F.symbols F.value (2 ^ m) in Replaced (2 ^ m) x (columns file.old) (less F.symbols.ring (columns file.old x) (share which (full F.symbols m) b (columns file.old b))) (columns file.new) }
 {
     negate_within(cabinet, x, file);
     add_within(cabinet, which, b, x, file);
@@ -122,10 +122,10 @@ pub(crate) fn take_within<F: Sums>(
 
 // Undoes the blocks of the data box in place x on the column that stands there.
 pub(crate) fn undo_within<F: Quotients>(cabinet: &Cabinet<F>, x: usize, file: &mut [F])
-    requires whole { length file.old ≡ 3 * cabinet.now.size.m * 2 ^ cabinet.now.size.m }
+    requires whole { let m = cabinet.now.size.m in length file.old ≡ 3 * m * 2 ^ m }
     requires data { x < 3 * cabinet.now.size.m }
-    ensures others { Kept (2 ^ cabinet.now.size.m) x (parts F.symbols F.value (2 ^ cabinet.now.size.m) file.old) (parts F.symbols F.value (2 ^ cabinet.now.size.m) file.new) }
-    ensures blocks { Alike (full F.symbols cabinet.now.size.m) (parts F.symbols F.value (2 ^ cabinet.now.size.m) file.old x) (image (full F.symbols cabinet.now.size.m) x (parts F.symbols F.value (2 ^ cabinet.now.size.m) file.new x)) }
+    ensures others { let m = cabinet.now.size.m in let columns = parts F.symbols F.value (2 ^ m) in Kept (2 ^ m) x (columns file.old) (columns file.new) }
+    ensures blocks { let m = cabinet.now.size.m in let columns = parts F.symbols F.value (2 ^ m) in let c = full F.symbols m in Alike c (columns file.old x) (image c x (columns file.new x)) }
 {
     let rows = cabinet.size.rows();
     undo_blocks(cabinet, x, &mut file[x * rows..(x + 1) * rows]);
@@ -134,12 +134,12 @@ pub(crate) fn undo_within<F: Quotients>(cabinet: &Cabinet<F>, x: usize, file: &m
 // In place x, writes the column of which the blocks of the data boxes in the
 // places x and y make columns that differ by the one that stands there.
 pub(crate) fn solve_within<F: Quotients>(cabinet: &Cabinet<F>, x: usize, y: usize, file: &mut [F])
-    requires whole { length file.old ≡ 3 * cabinet.now.size.m * 2 ^ cabinet.now.size.m }
+    requires whole { let m = cabinet.now.size.m in length file.old ≡ 3 * m * 2 ^ m }
     requires first { x < 3 * cabinet.now.size.m }
     requires second { y < 3 * cabinet.now.size.m }
     requires two { x ≢ y }
-    ensures others { Kept (2 ^ cabinet.now.size.m) x (parts F.symbols F.value (2 ^ cabinet.now.size.m) file.old) (parts F.symbols F.value (2 ^ cabinet.now.size.m) file.new) }
-    ensures difference { Alike (full F.symbols cabinet.now.size.m) (parts F.symbols F.value (2 ^ cabinet.now.size.m) file.old x) (less F.symbols.ring (image (full F.symbols cabinet.now.size.m) x (parts F.symbols F.value (2 ^ cabinet.now.size.m) file.new x)) (image (full F.symbols cabinet.now.size.m) y (parts F.symbols F.value (2 ^ cabinet.now.size.m) file.new x))) }
+    ensures others { let m = cabinet.now.size.m in let columns = parts F.symbols F.value (2 ^ m) in Kept (2 ^ m) x (columns file.old) (columns file.new) }
+    ensures difference { let m = cabinet.now.size.m in let columns = parts F.symbols F.value (2 ^ m) in let c = full F.symbols m in Alike c (columns file.old x) (less F.symbols.ring (image c x (columns file.new x)) (image c y (columns file.new x))) }
 {
     let rows = cabinet.size.rows();
     solve_difference(cabinet, x, y, &mut file[x * rows..(x + 1) * rows]);
