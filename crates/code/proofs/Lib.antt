@@ -1,6 +1,5 @@
 pub mod Columns
 pub mod Cuts
-pub mod Decoder
 pub mod Decodes
 pub mod Digits
 pub mod Eigens

@@ -41,9 +41,6 @@ module _ {A : Type 0} (c : Code A) (some : 1 ≤ c.size) where
     abbrev pub Upto : ℕ → File c → Type 0
     Upto b g = Replaced r into f (λ a. f into a + sum R b (term a)) g
 
-    pub upto_none : Upto 0 f
-    upto_none = record { here = λ a l. ring R (f into a ∷ []) (λ v. v ≐ v ⊕ o) refl; others = λ b h a l. refl }
-
     left_aside : (b a : ℕ) → (b ≡ x) ⊎ (b ≡ y) → term a b ≡ R.zero
     left_aside b a e = grind (arith, nat_tests)
 

@@ -7,7 +7,6 @@ use Rattle.code.specs.Standing.{FileOf}
 use Rattle.code.proofs.Columns.{column_data, has_columns}
 use Rattle.code.proofs.Sums.{if_same, if_other}
 use Rattle.decoding.specs.Missing.{KeptStanding, Found, aside, held}
-use Rattle.decoding.specs.Steps.{Replaced, ByFirst, BySecond, ByBoth}
 use Rattle.decoding.specs.declared.missing.Missing.{Missing}
 use Rattle.decoding.specs.declared.missing.Missing.TheVariants.{Nothing, One, Two}
 use Rattle.decoding.proofs.Counts.{aside_first, first_apart, most_below}
@@ -41,40 +40,17 @@ module _ {A : Type 0} (c : Code A) where
         has_columns c x y g all (λ b l h k. alike_to (g b) (all b) (f b) (held_data b l) (kept b l h k)) (λ h k. alike_to (parity1 c g) (all n) first held_first (one h k))
         (λ h k. alike_to (parity2 c g) (all (suc n)) second held_second (two h k))
 
-    -- by the first parity column, and by the second
-    module _ (x : ℕ) (hx : x < n) (f1 g : File c) where
-      pub first_filled : Replaced r x f first f1 → ByFirst c x f1 g → HasColumns c x (suc n) g all
-      first_filled s t =
-          filled x (suc n) g (λ b l h k a m. t.others b l h a m ∙ s.others b h a m) (λ h k a m. t.first a m ∙ s.here a m) (λ h k. absurd (k refl))
-
-      pub second_filled : Replaced r x f second f1 → BySecond c x f1 g → HasColumns c x n g all
-      second_filled s t =
-          filled x n g (λ b l h k a m. t.others b l h a m ∙ s.others b h a m) (λ h k. absurd (k refl)) (λ h k a m. t.second a m ∙ s.here a m)
-
-    pub both_filled : (x y : ℕ) → x ≢ y → (f1 f2 g : File c) → Replaced r x f first f1 → Replaced r y f1 second f2 → ByBoth c x y f2 g → HasColumns c x y g all
-    both_filled x y xy f1 f2 g s1 s2 t =
-        filled x y g (λ b l h k a m. t.others b l h k a m ∙ s2.others b k a m ∙ s1.others b h a m)
-        (λ h k a m. t.first a m ∙ s2.others x xy a m ∙ s1.here a m) (λ h k a m. t.second a m ∙ s2.here a m)
-
     -- where no data box is out
     pub none_filled : HasColumns c n (suc n) f all
     none_filled = filled n (suc n) f (λ b l h k a m. refl) (λ h k. absurd (h refl)) (λ h k. absurd (k refl))
 
-    -- one box out, by the place of the box that is left aside for it
-    pub one_aside : (x : ℕ) (g : File c) → x < n → HasColumns c x (suc n) g all → HasColumns c (if x == suc n then n else x) (suc n) g all
-    one_aside x g l = subst (λ y. HasColumns c y (suc n) g all) (sym (if_other x (suc n) (λ e. omega arith) n x))
-
+    -- where one parity box is out
     pub parity_aside : (x : ℕ) → n ≤ x → x < n + 2 → HasColumns c (if x == suc n then n else x) (suc n) f all
     parity_aside x l h =
         elim (cases_eq x (suc n)) [
           | inl e ↦ subst (λ y. HasColumns c y (suc n) f all) (sym (if_same x (suc n) e n x)) none_filled
           | inr k ↦ let e : x ≡ n = omega arith in subst (λ y. HasColumns c y (suc n) f all) (sym (if_other x (suc n) k n x ∙ e)) none_filled
         ]
-
-    -- the two parity boxes out
-    pub parities_aside : (x y : ℕ) → n ≤ x → x < y → y < n + 2 → HasColumns c x y f all
-    parities_aside x y l h k =
-        filled x y f (λ b l h k a m. refl) (λ w v. absurd (w (omega arith))) (λ w v. absurd (v (omega arith)))
 
   -- the boxes that are left aside are two boxes
   aside_inside : (s : ℕ → Bool) (found : Missing) → Found s (n + 2) found → ((aside n found).0 < n + 2) × ((aside n found).1 < n + 2) × ((aside n found).0 ≢ (aside n found).1)

@@ -1,18 +1,8 @@
 use Rattle.std.proofs.Common.{◌^◌, arith}
 use Rattle.code.specs.Codes.{full}
 use Rattle.code.specs.Contents.{at, parts}
-use Rattle.decoding.proofs.Fills.{first_filled, one_aside, parity_aside}
+use Rattle.decoding.proofs.Fills.{parity_aside}
 use Rattle.decoding.proofs.decoder.fill_one.Goals as goal
-
-pub returns-then-x-boxes : goal.returns-then-x-boxes
-returns-then-x-boxes g c second =
-    let Y = g.F.Sums.symbols in
-    let v = g.F.Sums.value in
-    let m = c.args.cabinet.now.size.m in
-    let file = parts Y v (2 ^ m) c.args.file.now in
-    let first = at Y v c.args.first.now in
-    one_aside (full Y m) file first second c.args.x _ (omega (arith, c.if-x-boxes.true, c.boxes.ensures))
-    (first_filled (full Y m) file first second c.args.x (omega (arith, c.if-x-boxes.true, c.boxes.ensures)) _ _ c.place.ensures c.by_first.ensures)
 
 pub returns-else-x-boxes : goal.returns-else-x-boxes
 returns-else-x-boxes g c second =
