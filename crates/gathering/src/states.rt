@@ -1,0 +1,179 @@
+// The states of a renewal: halves are gathered until every helper has been heard.
+ghost use Rattle.std.specs.Prelude.{◌≡◌, ℕ, ◌+◌, ◌-◌, ◌*◌, ◌^◌, ◌<◌, ◌≤◌, ◌≢◌, [], ◌∷◌, true, false, not, ◌||◌, ◌==◌, length, IfOk, MatchResult, slice_set};
+ghost use Rattle.std.proofs.Math.ListN.{replicate};
+ghost use Rattle.code.specs.Codes.{full, Given};
+ghost use Rattle.code.specs.Contents.{at, parts};
+ghost use Rattle.code.specs.Recovery.{seat as seated};
+ghost use Rattle.refusal.specs.Refusals.{earliest, few_marks, no_box, no_helper, parity_box, refusal, unheard, wrong_lengths, wrong_size};
+ghost use Rattle.gathering.specs.Gatherings.{declined, heard_by, missing, with_half};
+
+use boxes::Cabinet;
+use columns::restore;
+use field::{Quotients, Sums};
+use refusal::{Refusal, all_heard, fitting, helping, holding_data, numbered};
+
+// The boxes of the largest cabinet.
+const MOST_BOXES: usize = 20;
+
+// A data box that a cabinet has lost.
+#[derive(Drop)]
+struct Lost<F: Sums> {
+    cabinet: Cabinet<F>,
+    // Its number, from 1.
+    number: usize,
+    ghost first: { 1 ≤ number },
+    ghost data: { number ≤ 3 * cabinet.size.m },
+}
+
+impl<F: Sums> Lost<F> {
+    // Refused by a size, too few marks or a box that does not fit.
+    fn new(m: usize, number: usize) -> Result<Self, Refusal>
+        ensures answer { refusal result ≡ earliest (wrong_size m ∷ few_marks F.symbols m ∷ no_box (3 * m + 2) number ∷ parity_box (3 * m) number ∷ []) }
+        ensures named { IfOk result (λ l. (l.cabinet.size.m ≡ m) × (l.number ≡ number)) }
+    {
+        let cabinet = Cabinet::new(m)?;
+        let boxes = cabinet.size.boxes();
+        numbered(boxes + 2, number)?;
+        holding_data(boxes, number)?;
+        Ok(Lost { cabinet, number })
+    }
+
+    // The place of a helper among all boxes but the lost one.
+    fn seat(&self, helper: usize) -> usize
+        requires first { 1 ≤ helper }
+        requires last { helper ≤ 3 * self.now.cabinet.size.m + 2 }
+        requires other { helper ≢ self.now.number }
+        ensures place { result ≡ seated (self.now.number - 1) (helper - 1) }
+        ensures inside { result < 3 * self.now.cabinet.size.m + 1 }
+    {
+        if helper < self.number {
+            helper - 1
+        } else {
+            helper - 2
+        }
+    }
+
+    // Where in the store the half of a helper begins.
+    fn start(&self, helper: usize) -> usize
+        requires first { 1 ≤ helper }
+        requires last { helper ≤ 3 * self.now.cabinet.size.m + 2 }
+        requires other { helper ≢ self.now.number }
+        ensures place { result ≡ seated (self.now.number - 1) (helper - 1) * 2 ^ (self.now.cabinet.size.m - 1) }
+        ensures inside { result + 2 ^ (self.now.cabinet.size.m - 1) ≤ (3 * self.now.cabinet.size.m + 1) * 2 ^ (self.now.cabinet.size.m - 1) }
+    {
+        self.seat(helper) * self.cabinet.size.pairs()
+    }
+}
+
+// A call that was declined, with what it took given back.
+#[derive(Drop)]
+pub struct Declined<T> {
+    pub why: Refusal,
+    pub state: T,
+}
+
+impl<T: Drop> From<Declined<T>> for Refusal {
+    ghost from_gives = { λ declined why. why ≡ declined.why };
+
+    fn from(declined: Declined<T>) -> Refusal {
+        declined.why
+    }
+}
+
+// A lost box, and the helpers whose halves have come.
+#[derive(Drop)]
+pub struct Gathering<F: Sums> {
+    lost: Lost<F>,
+    // Box by box: has it been heard?
+    heard: [bool; MOST_BOXES],
+}
+
+// A lost box whose helpers have all been heard.
+#[derive(Drop)]
+pub struct Complete<F: Sums> {
+    lost: Lost<F>,
+}
+
+impl<F: Sums> Gathering<F> {
+    // Begins with no helper heard. Refused by a size, too few marks or a box
+    // that does not fit.
+    pub fn begin(m: usize, lost: usize) -> Result<Self, Refusal>
+        ensures answer { refusal result ≡ earliest (wrong_size m ∷ few_marks F.symbols m ∷ no_box (3 * m + 2) lost ∷ parity_box (3 * m) lost ∷ []) }
+        ensures size { IfOk result (λ g. g.lost.cabinet.size.m ≡ m) }
+        ensures lost { IfOk result (λ g. g.lost.number ≡ lost) }
+        ensures none { IfOk result (λ g. g.heard ≡ replicate 20 false) }
+    {
+        let lost = Lost::new(m, lost)?;
+        Ok(Gathering {
+            lost,
+            heard: [false; MOST_BOXES],
+        })
+    }
+
+    // Puts the half of a helper into the store, at the helper's place. Refused,
+    // with nothing written, by a length or a helper that does not fit.
+    pub fn hear(&mut self, helper: usize, half: &[F], store: &mut [F]) -> Result<(), Refusal>
+        ensures answer { refusal result ≡ earliest (wrong_lengths ((length half.now, 2 ^ (self.old.lost.cabinet.size.m - 1)) ∷ (length store.old, (3 * self.old.lost.cabinet.size.m + 1) * 2 ^ (self.old.lost.cabinet.size.m - 1)) ∷ []) ∷ no_box (3 * self.old.lost.cabinet.size.m + 2) helper ∷ no_helper self.old.lost.number helper (heard_by self.old.heard helper) ∷ []) }
+        ensures lost { self.new.lost ≡ self.old.lost }
+        ensures heard { MatchResult result (λ _. self.new.heard ≡ slice_set self.old.heard (helper - 1) true) (λ _. self.new.heard ≡ self.old.heard) }
+        ensures store { MatchResult result (λ _. store.new ≡ with_half (2 ^ (self.old.lost.cabinet.size.m - 1)) (seated (self.old.lost.number - 1) (helper - 1)) half.now store.old) (λ _. store.new ≡ store.old) }
+    {
+        let boxes = self.lost.cabinet.size.boxes();
+        let pairs = self.lost.cabinet.size.pairs();
+        fitting(&[(half.len(), pairs), (store.len(), (boxes + 1) * pairs)])?;
+        numbered(boxes + 2, helper)?;
+        helping(self.lost.number, helper, self.heard[helper - 1])?;
+        self.heard[helper - 1] = true;
+        let start = self.lost.start(helper);
+        store[start..start + pairs].copy_from_slice(half);
+        Ok(())
+    }
+
+    // Is a box a helper that is still to be heard?
+    fn awaits(&self, b: usize) -> bool
+        requires first { 1 ≤ b }
+        requires last { b ≤ 3 * self.now.lost.cabinet.size.m + 2 }
+        ensures { result ≡ not (b == self.now.lost.number || heard_by self.now.heard b) }
+    {
+        b != self.lost.number && !self.heard[b - 1]
+    }
+
+    // Is a helper still to be heard?
+    fn is_waiting(&self) -> bool
+        ensures { result ≡ missing (3 * self.now.lost.cabinet.size.m + 2) self.now.lost.number (heard_by self.now.heard) }
+    {
+        let boxes = self.lost.cabinet.size.boxes() + 2;
+        for b in 1..boxes + 1 {
+            if self.awaits(b) {
+                return true;
+            }
+        }
+        false
+    }
+
+    // Ends the gathering. Refused, with the gathering given back, as long as a helper is missing.
+    pub fn close(self) -> Result<Complete<F>, Declined<Self>>
+        ensures answer { declined result ≡ unheard (missing (3 * self.lost.cabinet.size.m + 2) self.lost.number (heard_by self.heard)) }
+        ensures lost { MatchResult result (λ c. c.lost ≡ self.lost) (λ d. d.state ≡ self) }
+    {
+        match all_heard(self.is_waiting()) {
+            Ok(()) => Ok(Complete { lost: self.lost }),
+            Err(why) => Err(Declined { why, state: self }),
+        }
+    }
+}
+
+impl<F: Quotients> Complete<F> {
+    // Writes the column that the store's halves give. Refused, with nothing
+    // written and the halves' state given back, by a length that does not fit.
+    pub fn column(self, store: &[F], into: &mut [F]) -> Result<(), Declined<Self>>
+        ensures answer { declined result ≡ earliest (wrong_lengths ((length store.now, (3 * self.lost.cabinet.size.m + 1) * 2 ^ (self.lost.cabinet.size.m - 1)) ∷ (length into.old, 2 ^ self.lost.cabinet.size.m) ∷ []) ∷ []) }
+        ensures column { MatchResult result (λ _. Given (full F.symbols self.lost.cabinet.size.m) (self.lost.number - 1) (parts F.symbols F.value (2 ^ (self.lost.cabinet.size.m - 1)) store.now) (at F.symbols F.value into.new)) (λ _. into.new ≡ into.old) }
+        ensures back { MatchResult result (λ _. Unit {0}) (λ d. d.state ≡ self) }
+    {
+        restore(self.lost.cabinet.size.m, self.lost.number, store, into).map_err(|why| Declined {
+            why,
+            state: self,
+        })
+    }
+}
