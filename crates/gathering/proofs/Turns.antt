@@ -1,0 +1,1 @@
+-- Messages that were heard one after another. Assumes nothing.
