@@ -55,3 +55,6 @@ accepted ps n x b h none =
     let w = within n b i.0 in
     let o = neither x b h k.0 in
     record { right = l.0; first = w.0; last = w.1; other = o.0; new = o.1 }
+
+pub right_lengths : (a b c d : ℕ) → any_wrong ((a, b) ∷ (c, d) ∷ []) ≡ false → (a ≡ b) × (c ≡ d)
+right_lengths a b c d h = (grind (arith, nat_tests), grind (arith, nat_tests))

@@ -5,7 +5,8 @@ use Rattle.std.proofs.lemmas.List.{places, same_lists}
 use Rattle.std.proofs.lemmas.Bool.{cases_lt}
 use Rattle.gathering.specs.Gatherings.{with_half, half_in}
 
-below : (k h n : ℕ) → k < h → k * n + n ≤ h * n
+-- parts of n symbols rise
+pub below : (k h n : ℕ) → k < h → k * n + n ≤ h * n
 below k h n l = grind (arith, rows)
 
 -- parts k and h of n symbols have nothing in common
