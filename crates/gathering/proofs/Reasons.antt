@@ -1,7 +1,7 @@
 -- The earliest of the reasons of one message after another. Assumes nothing.
-use Rattle.std.proofs.Common.{◌≡◌, ℕ, ◌<◌, ◌≤◌, ◌≢◌, Bool, true, false, ◌||◌, ◌==◌, nat_lt, List, [], ◌∷◌, ◌++◌, Option, Some, None, refl, ap, ◌∙◌, arith}
+use Rattle.std.proofs.Common.{◌≡◌, ℕ, ◌≤◌, ◌≢◌, ◌+◌, ◌-◌, ◌*◌, ◌^◌, Bool, true, false, ◌||◌, ◌==◌, nat_lt, List, [], ◌∷◌, ◌++◌, Some, None, refl, ap, ◌∙◌, arith}
 use Rattle.std.proofs.lemmas.Bool.Decides.{nat_tests}
-use Rattle.refusal.specs.Refusals.{Reason, earliest, where_holds, any_wrong, wrong_lengths, no_box, no_helper}
+use Rattle.refusal.specs.Refusals.{Reason, earliest, where_holds, any_wrong, wrong_lengths, no_box, no_helper, unheard}
 use Rattle.refusal.specs.declared.Refusal.{Refusal}
 use Rattle.refusal.specs.declared.Refusal.TheVariants.{Length, NoBox, Helper}
 
@@ -15,6 +15,12 @@ pub earliest_some : (rs after : List Reason) (why : Refusal) → earliest rs ≡
 earliest_some [] after why h = cc
 earliest_some (None ∷ rs) after why h = earliest_some rs after why h
 earliest_some (Some w ∷ rs) after why h = h
+
+pub earliest_second : (rs next after : List Reason) (why : Refusal) → earliest rs ≡ None → earliest next ≡ Some why → earliest (rs ++ next ++ after) ≡ Some why
+earliest_second rs next after why none some = earliest_some (rs ++ next) after why (earliest_none rs next none ∙ some)
+
+pub earliest_third : (rs next after : List Reason) → earliest rs ≡ None → earliest next ≡ None → earliest (rs ++ next ++ after) ≡ earliest after
+earliest_third rs next after none none' = earliest_none (rs ++ next) after (earliest_none rs next none ∙ none')
 
 -- a test that does not hold is passed over
 tested : (t : Bool) (why : Refusal) (rs rs' : List Reason) → (t ≡ false → earliest rs ≡ earliest rs') → earliest (where_holds t why ∷ rs) ≡ earliest (where_holds t why ∷ rs')
@@ -58,3 +64,12 @@ accepted ps n x b h none =
 
 pub right_lengths : (a b c d : ℕ) → any_wrong ((a, b) ∷ (c, d) ∷ []) ≡ false → (a ≡ b) × (c ≡ d)
 right_lengths a b c d h = (grind (arith, nat_tests), grind (arith, nat_tests))
+
+pub none_missing : (t : Bool) → None ≡ unheard t → t ≡ false
+none_missing true e = cc
+none_missing false e = refl
+
+-- the lengths that are asked for in the end, by other names
+pub last_lengths : (m' m stored' stored rows : ℕ) → m' ≡ m → stored' ≡ stored
+    → earliest (wrong_lengths ((stored', (3 * m' + 1) * 2 ^ (m' - 1)) ∷ (rows, 2 ^ m') ∷ []) ∷ []) ≡ earliest (wrong_lengths ((stored, (3 * m + 1) * 2 ^ (m - 1)) ∷ (rows, 2 ^ m) ∷ []) ∷ [])
+last_lengths m' m stored' stored rows em es i = earliest (wrong_lengths ((es i, (3 * em i + 1) * 2 ^ (em i - 1)) ∷ (rows, 2 ^ em i) ∷ []) ∷ [])

@@ -1,20 +1,20 @@
 -- One more message is heard. Assumes nothing.
-use Rattle.std.proofs.Common.{◌≡◌, ℕ, ◌+◌, ◌-◌, ◌*◌, ◌^◌, ◌<◌, ◌≤◌, ◌≢◌, Bool, true, false, ◌||◌, ◌==◌, List, [], ◌∷◌, ◌++◌, Option, Some, None, if◌then◌else◌, length, slice_index_or, slice_set, take, drop, refl, sym, ap, ◌∙◌, subst, ⊎_elim, arith, rules, length-set, get_or-set_other, get_or-set_same}
+use Rattle.std.proofs.Common.{◌≡◌, ℕ, ◌+◌, ◌-◌, ◌*◌, ◌^◌, ◌<◌, ◌≤◌, ◌≢◌, Bool, true, false, ◌||◌, ◌==◌, List, [], ◌∷◌, ◌++◌, Option, Some, None, if◌then◌else◌, length, slice_index_or, slice_set, take, drop, refl, sym, ap, ◌∙◌, subst, ⊎_elim, arith, length-set, get_or-set_other, get_or-set_same}
 use Rattle.std.proofs.Math.ListN.{replicate}
 use Rattle.std.proofs.lemmas.Bool.{false≢true, cases_eq}
 use Rattle.std.proofs.lemmas.Bool.Decides.{nat_tests}
-use Rattle.std.proofs.lemmas.Grind.{common_steps}
 use Rattle.std.proofs.lemmas.List.{get_or-replicate, length-replicate, drop_more, take_more}
 use Rattle.std.proofs.lemmas.List.Elements.{All-push}
 use Rattle.std.proofs.lemmas.List.Folds.{list_any-append, list_any_at}
 use Rattle.std.specs.List.{All}
 use Rattle.std.specs.Option.{is_some}
 use Rattle.code.proofs.Seats.{seat_apart, seat_most}
-use Rattle.refusal.specs.Refusals.{Reason, earliest, wrong_lengths, no_box, no_helper}
+use Rattle.refusal.specs.Refusals.{Reason, earliest, wrong_lengths, no_box, no_helper, unheard}
 use Rattle.refusal.specs.declared.Refusal.{Refusal}
-use Rattle.gathering.specs.Gatherings.{Heard, filled, half_in, heard_by, message_reasons, place, reasons, sent, with_half}
+use Rattle.gathering.specs.Gatherings.{Heard, filled, heard_by, message_reasons, missing, place, reasons, sent, with_half}
 use Rattle.gathering.specs.declared.messages.Message.{Message}
-use Rattle.gathering.proofs.Reasons.{Accepted, accepted, earliest_none, earliest_some, flag_counts, right_lengths}
+use Rattle.gathering.proofs.Boxes.{same_missing}
+use Rattle.gathering.proofs.Reasons.{Accepted, accepted, earliest_none, earliest_some, earliest_third, flag_counts, right_lengths}
 use Rattle.gathering.proofs.Stores.{below, length_with, half_put, half_kept}
 
 or_true : (b : Bool) → (b || true) ≡ true
@@ -154,3 +154,23 @@ module _ {S : Type 0} where
           (subst (λ f. Midway all start (take i all ++ msg ∷ []) (drop (i + 1) all) f store') (sym ef)
           (subst (λ s. Midway all start (take i all ++ msg ∷ []) (drop (i + 1) all) (slice_set flags (msg.helper - 1) true) s) (sym es)
           (turn all start (take i all) (drop (i + 1) all) msg flags store few first data_box here passed)))
+
+-- A gathering begins with m and x; by its own names these are m' and x', and at the close n and y.
+module _ {S : Type 0} (m x m' x' n y : ℕ) (em : m' ≡ m) (ex : x' ≡ x) (en : n ≡ m) (ey : y ≡ x) (all : List (Message S)) where
+  pub reasons_by : (stored : ℕ) → earliest (reasons m' x' stored [] all) ≡ earliest (reasons m x stored [] all)
+  reasons_by stored i = earliest (reasons (em i) (ex i) stored [] all)
+
+  pub heard_named : (store : List S) → All (Heard m' x' store) all → All (Heard m x store) all
+  heard_named store h = subst (λ k. All (Heard k x store) all) em (subst (λ k. All (Heard m' k store) all) ex h)
+
+  module _ (flags : List Bool) (few : m ≤ 6) (flagged : (b : ℕ) → 1 ≤ b → b ≤ 20 → heard_by flags b ≡ sent all b) where
+    -- as few are missing by the flags as by the messages
+    pub missing_by : missing (3 * n + 2) y (heard_by flags) ≡ missing (3 * m + 2) x (sent all)
+    missing_by = (λ i. missing (3 * en i + 2) (ey i) (heard_by flags)) ∙ same_missing (3 * m + 2) x (heard_by flags) (sent all) (λ b first last. flagged b first (omega arith))
+
+    -- what is asked at the close is asked after all before it
+    pub close_reasons : (begin : List Reason) (last : Reason) (stored : ℕ) → None ≡ earliest begin → None ≡ earliest (reasons m' x' stored [] all)
+        → earliest (unheard (missing (3 * n + 2) y (heard_by flags)) ∷ last ∷ []) ≡ earliest (begin ++ reasons m x stored [] all ++ unheard (missing (3 * m + 2) x (sent all)) ∷ last ∷ [])
+    close_reasons begin last stored begun heard =
+        ap (λ t. earliest (unheard t ∷ last ∷ [])) missing_by
+        ∙ sym (earliest_third begin (reasons m x stored [] all) _ (sym begun) (sym (reasons_by stored) ∙ sym heard))

@@ -48,7 +48,7 @@ pub fn gather<F: Quotients>(
     store: &mut [F],
     column: &mut [F],
 ) -> Result<(), Refusal>
-    ensures answer { refusal result ≡ earliest (opening F.symbols m lost ++ reasons m lost (length store.old) [] messages.now ++ unheard (missing (3 * m + 2) lost (sent messages.now)) ∷ wrong_lengths ((length column.old, 2 ^ m) ∷ []) ∷ []) }
+    ensures answer { refusal result ≡ earliest (opening F.symbols m lost ++ reasons m lost (length store.old) [] messages.now ++ unheard (missing (3 * m + 2) lost (sent messages.now)) ∷ wrong_lengths ((length store.old, (3 * m + 1) * 2 ^ (m - 1)) ∷ (length column.old, 2 ^ m) ∷ []) ∷ []) }
     ensures file { IfOk result (λ _. (f : File (full F.symbols m)) → BringHalves F.symbols F.value m lost f messages.now → Holds F.symbols F.value (2 ^ m) column.new (f (lost - 1))) }
     ensures given { MatchResult result (λ _. Given (full F.symbols m) (lost - 1) (parts F.symbols F.value (2 ^ (m - 1)) store.new) (at F.symbols F.value column.new)) (λ _. column.new ≡ column.old) }
     ensures placed { IfOk result (λ _. All (Heard m lost store.new) messages.now) }

@@ -1,4 +1,4 @@
-use Rattle.std.proofs.Common.{◌≡◌, ◌-◌, ◌^◌, length, sym, ap, ◌∙◌, subst, refl, arith, rules, [], Some}
+use Rattle.std.proofs.Common.{◌≡◌, ◌-◌, ◌^◌, sym, ap, ◌∙◌, subst, refl, arith, rules, [], Some}
 use Rattle.refusal.specs.Refusals.{earliest, refusal}
 use Rattle.gathering.specs.Gatherings.{place, with_half}
 use Rattle.gathering.proofs.Turns.{at_first, by_flags, turn_at, stopped_at, Midway}

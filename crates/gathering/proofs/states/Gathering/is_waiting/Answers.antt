@@ -1,4 +1,4 @@
-use Rattle.std.proofs.Common.{◌+◌, ◌*◌, not, ◌||◌, ◌==◌, sym, ap, ◌∙◌, arith}
+use Rattle.std.proofs.Common.{◌+◌, ◌*◌, not, ◌||◌, ◌==◌, sym, ◌∙◌, arith}
 use Rattle.gathering.specs.Gatherings.{heard_by}
 use Rattle.gathering.proofs.Boxes.{some_box, no_box}
 use Rattle.gathering.proofs.states.Gathering.is_waiting.Goals as goal

@@ -1,4 +1,4 @@
-use Rattle.std.proofs.Common.{◌+◌, ◌*◌, ◌-◌, ◌^◌, ◌≤◌, arith}
+use Rattle.std.proofs.Common.{◌+◌, ◌*◌}
 use Rattle.gathering.proofs.Stores.{below}
 use Rattle.gathering.proofs.states.Lost.start.Goals as goal
 
