@@ -10,7 +10,7 @@ use Rattle.code.specs.Recovery.{seat}
 use Rattle.code.proofs.Seats.{seat_helper, helper_apart, helper_most}
 use Rattle.columns.proofs.Slices.{part}
 use Rattle.gathering.specs.Gatherings.{BringHalves, Heard, half_in, missing, sent}
-use Rattle.gathering.specs.declared.messages.Message.{Message}
+use Rattle.gathering.specs.declared.states.Message.{Message}
 use Rattle.gathering.proofs.Boxes.{each_box}
 
 -- a helper that is not missing sent a message

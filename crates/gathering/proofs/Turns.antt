@@ -12,7 +12,7 @@ use Rattle.code.proofs.Seats.{seat_apart, seat_most}
 use Rattle.refusal.specs.Refusals.{Reason, earliest, wrong_lengths, no_box, no_helper, unheard}
 use Rattle.refusal.specs.declared.Refusal.{Refusal}
 use Rattle.gathering.specs.Gatherings.{Heard, filled, heard_by, message_reasons, missing, place, reasons, sent, with_half}
-use Rattle.gathering.specs.declared.messages.Message.{Message}
+use Rattle.gathering.specs.declared.states.Message.{Message}
 use Rattle.gathering.proofs.Boxes.{same_missing}
 use Rattle.gathering.proofs.Reasons.{Accepted, accepted, earliest_none, earliest_some, earliest_third, flag_counts, right_lengths}
 use Rattle.gathering.proofs.Stores.{below, length_with, half_put, half_kept}

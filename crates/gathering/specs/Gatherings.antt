@@ -9,7 +9,7 @@ use Rattle.code.specs.Recovery.{seat}
 use Rattle.refusal.specs.Refusals.{Reason, earliest, wrong_size, few_marks, wrong_lengths, no_box, parity_box, no_helper}
 use Rattle.refusal.specs.declared.Refusal.{Refusal}
 use Rattle.gathering.specs.declared.states.Declined.{Declined}
-use Rattle.gathering.specs.declared.messages.Message.{Message}
+use Rattle.gathering.specs.declared.states.Message.{Message}
 
 -- the refusal of a declined call that gave back what it took
 abbrev pub declined : {A T : Type 0} → Result A (Declined T) → Option Refusal

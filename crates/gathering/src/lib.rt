@@ -1,8 +1,7 @@
 // A renewal at the branch, from halves that arrive in any order.
 #![tactic(auto)]
 
-mod messages;
+mod lost;
 mod states;
 
-pub use messages::{Message, gather};
-pub use states::{Complete, Declined, Gathering};
+pub use states::{Complete, Declined, Gathering, Message, gather};

@@ -1,69 +1,21 @@
 // The states of a renewal: halves are gathered until every helper has been heard.
-ghost use Rattle.std.specs.Prelude.{◌≡◌, ℕ, ◌+◌, ◌-◌, ◌*◌, ◌^◌, ◌<◌, ◌≤◌, ◌≢◌, [], ◌∷◌, true, false, not, ◌||◌, ◌==◌, length, IfOk, MatchResult, slice_set};
+ghost use Rattle.std.specs.Prelude.{◌≡◌, ℕ, ◌+◌, ◌-◌, ◌*◌, ◌^◌, ◌<◌, ◌≤◌, ◌≢◌, [], ◌∷◌, ◌++◌, true, false, not, ◌||◌, ◌==◌, length, if◌then◌else◌, IfOk, MatchResult, slice_set};
 ghost use Rattle.std.proofs.Math.ListN.{replicate};
-ghost use Rattle.code.specs.Codes.{full, Given};
-ghost use Rattle.code.specs.Contents.{at, parts};
+ghost use Rattle.std.specs.List.{All};
+ghost use Rattle.std.specs.Option.{is_some};
+ghost use Rattle.code.specs.Codes.{File, full, Given};
+ghost use Rattle.code.specs.Contents.{Holds, at, parts};
 ghost use Rattle.code.specs.Recovery.{seat as seated};
 ghost use Rattle.refusal.specs.Refusals.{earliest, few_marks, no_box, no_helper, parity_box, refusal, unheard, wrong_lengths, wrong_size};
-ghost use Rattle.gathering.specs.Gatherings.{declined, heard_by, missing, with_half};
+ghost use Rattle.gathering.specs.Gatherings.{BringHalves, Heard, declined, filled, heard_by, missing, opening, reasons, sent, with_half};
 
-use boxes::Cabinet;
+use crate::lost::Lost;
 use columns::restore;
 use field::{Quotients, Sums};
-use refusal::{Refusal, all_heard, fitting, helping, holding_data, numbered};
+use refusal::{Refusal, all_heard, fitting, helping, numbered};
 
 // The boxes of the largest cabinet.
 const MOST_BOXES: usize = 20;
-
-// A data box that a cabinet has lost.
-#[derive(Drop)]
-struct Lost<F: Sums> {
-    cabinet: Cabinet<F>,
-    // Its number, from 1.
-    number: usize,
-    ghost first: { 1 ≤ number },
-    ghost data: { number ≤ 3 * cabinet.size.m },
-}
-
-impl<F: Sums> Lost<F> {
-    // Refused by a size, too few marks or a box that does not fit.
-    fn new(m: usize, number: usize) -> Result<Self, Refusal>
-        ensures answer { refusal result ≡ earliest (wrong_size m ∷ few_marks F.symbols m ∷ no_box (3 * m + 2) number ∷ parity_box (3 * m) number ∷ []) }
-        ensures named { IfOk result (λ l. (l.cabinet.size.m ≡ m) × (l.number ≡ number)) }
-    {
-        let cabinet = Cabinet::new(m)?;
-        let boxes = cabinet.size.boxes();
-        numbered(boxes + 2, number)?;
-        holding_data(boxes, number)?;
-        Ok(Lost { cabinet, number })
-    }
-
-    // The place of a helper among all boxes but the lost one.
-    fn seat(&self, helper: usize) -> usize
-        requires first { 1 ≤ helper }
-        requires last { helper ≤ 3 * self.now.cabinet.size.m + 2 }
-        requires other { helper ≢ self.now.number }
-        ensures place { result ≡ seated (self.now.number - 1) (helper - 1) }
-        ensures inside { result < 3 * self.now.cabinet.size.m + 1 }
-    {
-        if helper < self.number {
-            helper - 1
-        } else {
-            helper - 2
-        }
-    }
-
-    // Where in the store the half of a helper begins.
-    fn start(&self, helper: usize) -> usize
-        requires first { 1 ≤ helper }
-        requires last { helper ≤ 3 * self.now.cabinet.size.m + 2 }
-        requires other { helper ≢ self.now.number }
-        ensures place { result ≡ seated (self.now.number - 1) (helper - 1) * 2 ^ (self.now.cabinet.size.m - 1) }
-        ensures inside { result + 2 ^ (self.now.cabinet.size.m - 1) ≤ (3 * self.now.cabinet.size.m + 1) * 2 ^ (self.now.cabinet.size.m - 1) }
-    {
-        self.seat(helper) * self.cabinet.size.pairs()
-    }
-}
 
 // A call that was declined, with what it took given back.
 #[derive(Drop)]
@@ -88,10 +40,18 @@ pub struct Gathering<F: Sums> {
     heard: [bool; MOST_BOXES],
 }
 
-// A lost box whose helpers have all been heard.
+// A gathering that has heard every helper.
 #[derive(Drop)]
 pub struct Complete<F: Sums> {
-    lost: Lost<F>,
+    gathering: Gathering<F>,
+    ghost whole: { missing (3 * gathering.lost.cabinet.size.m + 2) gathering.lost.number (heard_by gathering.heard) ≡ false },
+}
+
+// One message: the number of a helper and the half that it sends.
+#[derive(Drop)]
+pub struct Message<'a, F> {
+    pub helper: usize,
+    pub half: &'a [F],
 }
 
 impl<F: Sums> Gathering<F> {
@@ -129,6 +89,22 @@ impl<F: Sums> Gathering<F> {
         Ok(())
     }
 
+    // Hears messages in their order, up to the first that is declined, as the
+    // first messages of the gathering.
+    fn hear_all(&mut self, messages: &[Message<'_, F>], store: &mut [F]) -> Result<(), Refusal>
+        requires { self.old.heard ≡ replicate 20 false }
+        ensures answer { refusal result ≡ earliest (reasons self.old.lost.cabinet.size.m self.old.lost.number (length store.old) [] messages.now) }
+        ensures lost { self.new.lost ≡ self.old.lost }
+        ensures heard { IfOk result (λ _. (b : ℕ) → 1 ≤ b → b ≤ 20 → heard_by self.new.heard b ≡ sent messages.now b) }
+        ensures store { store.new ≡ filled self.old.lost.cabinet.size.m self.old.lost.number [] messages.now store.old }
+        ensures placed { IfOk result (λ _. All (Heard self.old.lost.cabinet.size.m self.old.lost.number store.new) messages.now) }
+    {
+        for message in messages {
+            self.hear(message.helper, message.half, store)?;
+        }
+        Ok(())
+    }
+
     // Is a box a helper that is still to be heard?
     fn awaits(&self, b: usize) -> bool
         requires first { 1 ≤ b }
@@ -154,10 +130,10 @@ impl<F: Sums> Gathering<F> {
     // Ends the gathering. Refused, with the gathering given back, as long as a helper is missing.
     pub fn close(self) -> Result<Complete<F>, Declined<Self>>
         ensures answer { declined result ≡ unheard (missing (3 * self.lost.cabinet.size.m + 2) self.lost.number (heard_by self.heard)) }
-        ensures lost { MatchResult result (λ c. c.lost ≡ self.lost) (λ d. d.state ≡ self) }
+        ensures kept { MatchResult result (λ c. c.gathering ≡ self) (λ d. d.state ≡ self) }
     {
         match all_heard(self.is_waiting()) {
-            Ok(()) => Ok(Complete { lost: self.lost }),
+            Ok(()) => Ok(Complete { gathering: self }),
             Err(why) => Err(Declined { why, state: self }),
         }
     }
@@ -167,13 +143,40 @@ impl<F: Quotients> Complete<F> {
     // Writes the column that the store's halves give. Refused, with nothing
     // written and the halves' state given back, by a length that does not fit.
     pub fn column(self, store: &[F], into: &mut [F]) -> Result<(), Declined<Self>>
-        ensures answer { declined result ≡ earliest (wrong_lengths ((length store.now, (3 * self.lost.cabinet.size.m + 1) * 2 ^ (self.lost.cabinet.size.m - 1)) ∷ (length into.old, 2 ^ self.lost.cabinet.size.m) ∷ []) ∷ []) }
-        ensures column { MatchResult result (λ _. Given (full F.symbols self.lost.cabinet.size.m) (self.lost.number - 1) (parts F.symbols F.value (2 ^ (self.lost.cabinet.size.m - 1)) store.now) (at F.symbols F.value into.new)) (λ _. into.new ≡ into.old) }
+        ensures answer { declined result ≡ earliest (wrong_lengths ((length store.now, (3 * self.gathering.lost.cabinet.size.m + 1) * 2 ^ (self.gathering.lost.cabinet.size.m - 1)) ∷ (length into.old, 2 ^ self.gathering.lost.cabinet.size.m) ∷ []) ∷ []) }
+        ensures column { MatchResult result (λ _. Given (full F.symbols self.gathering.lost.cabinet.size.m) (self.gathering.lost.number - 1) (parts F.symbols F.value (2 ^ (self.gathering.lost.cabinet.size.m - 1)) store.now) (at F.symbols F.value into.new)) (λ _. into.new ≡ into.old) }
         ensures back { MatchResult result (λ _. Unit {0}) (λ d. d.state ≡ self) }
     {
-        restore(self.lost.cabinet.size.m, self.lost.number, store, into).map_err(|why| Declined {
-            why,
-            state: self,
-        })
+        restore(
+            self.gathering.lost.cabinet.size.m,
+            self.gathering.lost.number,
+            store,
+            into,
+        )
+        .map_err(|why| Declined { why, state: self })
     }
+}
+
+// Gathers the halves that messages bring, and writes the lost column. Refused
+// by a size, too few marks or a box that does not fit, by the first message
+// that does not, by a helper that is missing, and by a length: the column is
+// then as it was, and the store holds the halves that came before.
+pub fn gather<F: Quotients>(
+    m: usize,
+    lost: usize,
+    messages: &[Message<'_, F>],
+    store: &mut [F],
+    column: &mut [F],
+) -> Result<(), Refusal>
+    ensures answer { refusal result ≡ earliest (opening F.symbols m lost ++ reasons m lost (length store.old) [] messages.now ++ unheard (missing (3 * m + 2) lost (sent messages.now)) ∷ wrong_lengths ((length store.old, (3 * m + 1) * 2 ^ (m - 1)) ∷ (length column.old, 2 ^ m) ∷ []) ∷ []) }
+    ensures file { IfOk result (λ _. (f : File (full F.symbols m)) → BringHalves F.symbols F.value m lost f messages.now → Holds F.symbols F.value (2 ^ m) column.new (f (lost - 1))) }
+    ensures given { MatchResult result (λ _. Given (full F.symbols m) (lost - 1) (parts F.symbols F.value (2 ^ (m - 1)) store.new) (at F.symbols F.value column.new)) (λ _. column.new ≡ column.old) }
+    ensures placed { IfOk result (λ _. All (Heard m lost store.new) messages.now) }
+    ensures store { store.new ≡ (if is_some (earliest (opening F.symbols m lost)) then store.old else filled m lost [] messages.now store.old) }
+{
+    let mut gathering = Gathering::begin(m, lost)?;
+    gathering.hear_all(messages, store)?;
+    let complete = gathering.close()?;
+    complete.column(store, column)?;
+    Ok(())
 }
