@@ -73,7 +73,7 @@ impl<F: Sums> Gathering<F> {
     // Puts the half of a helper into the store, at the helper's place. Refused,
     // with nothing written, by a length or a helper that does not fit.
     pub fn hear(&mut self, helper: usize, half: &[F], store: &mut [F]) -> Result<(), Refusal>
-        ensures answer { refusal result ≡ earliest (wrong_lengths ((length half.now, 2 ^ (self.old.lost.cabinet.size.m - 1)) ∷ (length store.old, (3 * self.old.lost.cabinet.size.m + 1) * 2 ^ (self.old.lost.cabinet.size.m - 1)) ∷ []) ∷ no_box (3 * self.old.lost.cabinet.size.m + 2) helper ∷ no_helper self.old.lost.number helper (heard_by self.old.heard helper) ∷ []) }
+        ensures answer { let m = self.old.lost.cabinet.size.m in refusal result ≡ earliest (wrong_lengths ((length half.now, 2 ^ (m - 1)) ∷ (length store.old, (3 * m + 1) * 2 ^ (m - 1)) ∷ []) ∷ no_box (3 * m + 2) helper ∷ no_helper self.old.lost.number helper (heard_by self.old.heard helper) ∷ []) }
         ensures lost { self.new.lost ≡ self.old.lost }
         ensures heard { MatchResult result (λ _. self.new.heard ≡ slice_set self.old.heard (helper - 1) true) (λ _. self.new.heard ≡ self.old.heard) }
         ensures store { MatchResult result (λ _. store.new ≡ with_half (2 ^ (self.old.lost.cabinet.size.m - 1)) (seated (self.old.lost.number - 1) (helper - 1)) half.now store.old) (λ _. store.new ≡ store.old) }
@@ -141,11 +141,10 @@ impl<F: Sums> Gathering<F> {
 
 impl<F: Quotients> Complete<F> {
     // Writes the column that the store's halves give. Refused, with nothing
-    // written and the halves' state given back, by a length that does not fit.
+    // written and itself given back, by a length that does not fit.
     pub fn column(self, store: &[F], into: &mut [F]) -> Result<(), Declined<Self>>
-        ensures answer { declined result ≡ earliest (wrong_lengths ((length store.now, (3 * self.gathering.lost.cabinet.size.m + 1) * 2 ^ (self.gathering.lost.cabinet.size.m - 1)) ∷ (length into.old, 2 ^ self.gathering.lost.cabinet.size.m) ∷ []) ∷ []) }
-        ensures column { MatchResult result (λ _. Given (full F.symbols self.gathering.lost.cabinet.size.m) (self.gathering.lost.number - 1) (parts F.symbols F.value (2 ^ (self.gathering.lost.cabinet.size.m - 1)) store.now) (at F.symbols F.value into.new)) (λ _. into.new ≡ into.old) }
-        ensures back { MatchResult result (λ _. Unit {0}) (λ d. d.state ≡ self) }
+        ensures answer { let m = self.gathering.lost.cabinet.size.m in declined result ≡ earliest (wrong_lengths ((length store.now, (3 * m + 1) * 2 ^ (m - 1)) ∷ (length into.old, 2 ^ m) ∷ []) ∷ []) }
+        ensures column { let m = self.gathering.lost.cabinet.size.m in MatchResult result (λ _. Given (full F.symbols m) (self.gathering.lost.number - 1) (parts F.symbols F.value (2 ^ (m - 1)) store.now) (at F.symbols F.value into.new)) (λ d. (into.new ≡ into.old) × (d.state ≡ self)) }
     {
         restore(
             self.gathering.lost.cabinet.size.m,
