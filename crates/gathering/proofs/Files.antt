@@ -4,12 +4,12 @@ use Rattle.std.proofs.lemmas.Bool.Decides.{nat_tests}
 use Rattle.std.proofs.lemmas.List.Folds.{Any-from_list_any}
 use Rattle.std.specs.List.{All}
 use Rattle.field.specs.Symbols.{Symbols}
-use Rattle.code.specs.Codes.{File, HasHalves, column, full, half_for, helper}
+use Rattle.code.specs.Codes.{File, Given, HasHalves, column, full, half_for, helper}
 use Rattle.code.specs.Contents.{Holds, at, parts}
 use Rattle.code.specs.Recovery.{seat}
 use Rattle.code.proofs.Seats.{seat_helper, helper_apart, helper_most}
 use Rattle.columns.proofs.Slices.{part}
-use Rattle.gathering.specs.Gatherings.{BringHalves, Heard, half_in, missing, sent}
+use Rattle.gathering.specs.Gatherings.{BringHalves, Heard, Renewed, half_in, missing, sent}
 use Rattle.gathering.specs.declared.states.Message.{Message}
 use Rattle.gathering.proofs.Boxes.{each_box}
 
@@ -18,10 +18,10 @@ was_sent : (b lost : ℕ) (s : Bool) → b ≢ lost → not (b == lost || s) ≡
 was_sent b lost true other h = refl
 was_sent b lost false other h = grind (arith, nat_tests)
 
-module _ (Y : Symbols) {S : Type 0} (v : S → Y.Symbol) (m lost : ℕ) (first : 1 ≤ lost) (data_box : lost ≤ 3 * m) (messages : List (Message S)) (store : List S) (f : File (full Y m))
-    (heard : All (Heard m lost store) messages) (bring : BringHalves Y v m lost f messages) (all : missing (3 * m + 2) lost (sent messages) ≡ false) where
-  pub has_halves : HasHalves (full Y m) (lost - 1) f (parts Y v (2 ^ (m - 1)) store)
-  has_halves h hl j jl =
+module _ (Y : Symbols) {S : Type 0} (v : S → Y.Symbol) (m lost : ℕ) (first : 1 ≤ lost) (data_box : lost ≤ 3 * m) (messages : List (Message S)) (store : List S)
+    (heard : All (Heard m lost store) messages) (all : missing (3 * m + 2) lost (sent messages) ≡ false) where
+  has_halves : (f : File (full Y m)) → BringHalves Y v m lost messages f → HasHalves (full Y m) (lost - 1) f (parts Y v (2 ^ (m - 1)) store)
+  has_halves f bring h hl j jl =
       let c = full Y m in
       let x = lost - 1 in
       let b = helper c x h + 1 in
@@ -38,3 +38,6 @@ module _ (Y : Symbols) {S : Type 0} (v : S → Y.Symbol) (m lost : ℕ) (first :
       ∙ ap (λ s. at Y v s j) (sym there.placed)
       ∙ ap (λ k. at Y v (half_in (2 ^ (m - 1)) k store) j) (ap (seat x) place_is ∙ seat_helper c x h)
       ∙ part Y v store (2 ^ (m - 1)) h (h * 2 ^ (m - 1)) (2 ^ (m - 1)) refl refl j jl
+
+  pub renewed : (into : List S) → Given (full Y m) (lost - 1) (parts Y v (2 ^ (m - 1)) store) (at Y v into) → Renewed Y v m lost messages store into
+  renewed into given = record { file = λ f bring a l. sym (given f (has_halves f bring) a l); given = given; heard = heard }

@@ -16,12 +16,6 @@ earliest_some [] after why h = cc
 earliest_some (None ∷ rs) after why h = earliest_some rs after why h
 earliest_some (Some w ∷ rs) after why h = h
 
-pub earliest_second : (rs next after : List Reason) (why : Refusal) → earliest rs ≡ None → earliest next ≡ Some why → earliest (rs ++ next ++ after) ≡ Some why
-earliest_second rs next after why none some = earliest_some (rs ++ next) after why (earliest_none rs next none ∙ some)
-
-pub earliest_third : (rs next after : List Reason) → earliest rs ≡ None → earliest next ≡ None → earliest (rs ++ next ++ after) ≡ earliest after
-earliest_third rs next after none none' = earliest_none (rs ++ next) after (earliest_none rs next none ∙ none')
-
 -- a test that does not hold is passed over
 tested : (t : Bool) (why : Refusal) (rs rs' : List Reason) → (t ≡ false → earliest rs ≡ earliest rs') → earliest (where_holds t why ∷ rs) ≡ earliest (where_holds t why ∷ rs')
 tested true why rs rs' same = refl

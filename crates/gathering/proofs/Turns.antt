@@ -14,7 +14,7 @@ use Rattle.refusal.specs.declared.Refusal.{Refusal}
 use Rattle.gathering.specs.Gatherings.{Heard, filled, heard_by, message_reasons, missing, place, reasons, sent, with_half}
 use Rattle.gathering.specs.declared.states.Message.{Message}
 use Rattle.gathering.proofs.Boxes.{same_missing}
-use Rattle.gathering.proofs.Reasons.{Accepted, accepted, earliest_none, earliest_some, earliest_third, flag_counts, right_lengths}
+use Rattle.gathering.proofs.Reasons.{Accepted, accepted, earliest_none, earliest_some, flag_counts, right_lengths}
 use Rattle.gathering.proofs.Stores.{below, length_with, half_put, half_kept}
 
 or_true : (b : Bool) → (b || true) ≡ true
@@ -155,22 +155,13 @@ module _ {S : Type 0} where
           (subst (λ s. Midway all start (take i all ++ msg ∷ []) (drop (i + 1) all) (slice_set flags (msg.helper - 1) true) s) (sym es)
           (turn all start (take i all) (drop (i + 1) all) msg flags store few first data_box here passed)))
 
--- A gathering begins with m and x; by its own names these are m' and x', and at the close n and y.
-module _ {S : Type 0} (m x m' x' n y : ℕ) (em : m' ≡ m) (ex : x' ≡ x) (en : n ≡ m) (ey : y ≡ x) (all : List (Message S)) where
-  pub reasons_by : (stored : ℕ) → earliest (reasons m' x' stored [] all) ≡ earliest (reasons m x stored [] all)
-  reasons_by stored i = earliest (reasons (em i) (ex i) stored [] all)
+-- the end of a gathering: by its own names the size is n there, and the lost box y
+module _ {S : Type 0} (m x n y : ℕ) (en : n ≡ m) (ey : y ≡ x) (all : List (Message S)) (flags : List Bool) (few : m ≤ 6) (flagged : (b : ℕ) → 1 ≤ b → b ≤ 20 → heard_by flags b ≡ sent all b) where
+  -- as few are missing by the flags as by the messages
+  pub missing_by : missing (3 * n + 2) y (heard_by flags) ≡ missing (3 * m + 2) x (sent all)
+  missing_by = (λ i. missing (3 * en i + 2) (ey i) (heard_by flags)) ∙ same_missing (3 * m + 2) x (heard_by flags) (sent all) (λ b first last. flagged b first (omega arith))
 
-  pub heard_named : (store : List S) → All (Heard m' x' store) all → All (Heard m x store) all
-  heard_named store h = subst (λ k. All (Heard k x store) all) em (subst (λ k. All (Heard m' k store) all) ex h)
-
-  module _ (flags : List Bool) (few : m ≤ 6) (flagged : (b : ℕ) → 1 ≤ b → b ≤ 20 → heard_by flags b ≡ sent all b) where
-    -- as few are missing by the flags as by the messages
-    pub missing_by : missing (3 * n + 2) y (heard_by flags) ≡ missing (3 * m + 2) x (sent all)
-    missing_by = (λ i. missing (3 * en i + 2) (ey i) (heard_by flags)) ∙ same_missing (3 * m + 2) x (heard_by flags) (sent all) (λ b first last. flagged b first (omega arith))
-
-    -- what is asked at the close is asked after all before it
-    pub close_reasons : (begin : List Reason) (last : Reason) (stored : ℕ) → None ≡ earliest begin → None ≡ earliest (reasons m' x' stored [] all)
-        → earliest (unheard (missing (3 * n + 2) y (heard_by flags)) ∷ last ∷ []) ≡ earliest (begin ++ reasons m x stored [] all ++ unheard (missing (3 * m + 2) x (sent all)) ∷ last ∷ [])
-    close_reasons begin last stored begun heard =
-        ap (λ t. earliest (unheard t ∷ last ∷ [])) missing_by
-        ∙ sym (earliest_third begin (reasons m x stored [] all) _ (sym begun) (sym (reasons_by stored) ∙ sym heard))
+  -- what is asked at the close is asked after all messages
+  pub close_reasons : (last : Reason) (stored : ℕ) → None ≡ earliest (reasons m x stored [] all)
+      → earliest (unheard (missing (3 * n + 2) y (heard_by flags)) ∷ last ∷ []) ≡ earliest (reasons m x stored [] all ++ unheard (missing (3 * m + 2) x (sent all)) ∷ last ∷ [])
+  close_reasons last stored heard = ap (λ t. earliest (unheard t ∷ last ∷ [])) missing_by ∙ sym (earliest_none (reasons m x stored [] all) _ (sym heard))

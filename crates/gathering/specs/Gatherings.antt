@@ -3,10 +3,10 @@ use Rattle.std.specs.Prelude.{ℕ, ◌+◌, ◌-◌, ◌*◌, ◌^◌, ◌≡◌
 use Rattle.std.specs.List.{All, list_any, range_with_len}
 use Rattle.std.specs.Option.{is_some}
 use Rattle.field.specs.Symbols.{Symbols}
-use Rattle.code.specs.Codes.{File, column, full, half_for}
-use Rattle.code.specs.Contents.{Holds}
+use Rattle.code.specs.Codes.{File, Given, column, full, half_for}
+use Rattle.code.specs.Contents.{Holds, at, parts}
 use Rattle.code.specs.Recovery.{seat}
-use Rattle.refusal.specs.Refusals.{Reason, earliest, wrong_size, few_marks, wrong_lengths, no_box, parity_box, no_helper}
+use Rattle.refusal.specs.Refusals.{Reason, earliest, wrong_size, few_marks, wrong_lengths, no_box, parity_box, no_helper, unheard}
 use Rattle.refusal.specs.declared.Refusal.{Refusal}
 use Rattle.gathering.specs.declared.states.Declined.{Declined}
 use Rattle.gathering.specs.declared.states.Message.{Message}
@@ -64,6 +64,12 @@ module _ {S : Type 0} where
     reasons stored before [] = []
     reasons stored before (msg ∷ rest) = message_reasons stored before msg ++ reasons stored (before ++ msg ∷ []) rest
 
+    -- what is asked of a gathering once it is begun: for a store and a column of some lengths
+    abbrev pub asked : ℕ → ℕ → List (Message S) → List Reason
+    asked stored rows messages =
+        reasons stored [] messages
+        ++ unheard (missing (3 * m + 2) lost (sent messages)) ∷ wrong_lengths ((stored, (3 * m + 1) * 2 ^ (m - 1)) ∷ (rows, 2 ^ m) ∷ []) ∷ []
+
     -- the store with the halves in their places, up to the first message that is declined
     abbrev pub filled : List (Message S) → List (Message S) → List S → List S
     filled before [] store = store
@@ -71,7 +77,16 @@ module _ {S : Type 0} where
         if is_some (earliest (message_reasons (length store) before msg)) then store
         else filled (before ++ msg ∷ []) rest (with_half (2 ^ (m - 1)) (place msg) msg.half.now store)
 
-  -- the messages bring a file's halves
-  abbrev pub BringHalves : (Y : Symbols) (value : S → Y.Symbol) (m lost : ℕ) → File (full Y m) → List (Message S) → Type 0
-  BringHalves Y value m lost f =
-      All (λ msg. Holds Y value (2 ^ (m - 1)) msg.half.now (half_for (full Y m) (lost - 1) (column (full Y m) f (msg.helper - 1))))
+  module _ (Y : Symbols) (value : S → Y.Symbol) (m lost : ℕ) (messages : List (Message S)) where
+    -- the messages bring a file's halves
+    abbrev pub BringHalves : File (full Y m) → Type 0
+    BringHalves f = All (λ msg. Holds Y value (2 ^ (m - 1)) msg.half.now (half_for (full Y m) (lost - 1) (column (full Y m) f (msg.helper - 1)))) messages
+
+    -- what a gathering that is not declined leaves in the store and in the column
+    pub record Renewed (store into : List S) : Type 0 where
+      -- the lost column of every file whose halves came
+      pub file : (f : File (full Y m)) → BringHalves f → Holds Y value (2 ^ m) into (f (lost - 1))
+      -- the column that the store's halves give
+      pub given : Given (full Y m) (lost - 1) (parts Y value (2 ^ (m - 1)) store) (at Y value into)
+      -- and the halves, each in its place
+      pub heard : All (Heard m lost store) messages

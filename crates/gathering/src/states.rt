@@ -7,7 +7,7 @@ ghost use Rattle.code.specs.Codes.{File, full, Given};
 ghost use Rattle.code.specs.Contents.{Holds, at, parts};
 ghost use Rattle.code.specs.Recovery.{seat as seated};
 ghost use Rattle.refusal.specs.Refusals.{earliest, few_marks, no_box, no_helper, parity_box, refusal, unheard, wrong_lengths, wrong_size};
-ghost use Rattle.gathering.specs.Gatherings.{BringHalves, Heard, declined, filled, heard_by, missing, opening, reasons, sent, with_half};
+ghost use Rattle.gathering.specs.Gatherings.{Heard, Renewed, asked, declined, filled, heard_by, missing, opening, reasons, sent, with_half};
 
 use crate::lost::Lost;
 use columns::restore;
@@ -156,6 +156,26 @@ impl<F: Quotients> Complete<F> {
     }
 }
 
+impl<F: Quotients> Gathering<F> {
+    // Hears messages, as the first of the gathering, and writes the column.
+    fn finish(
+        mut self,
+        messages: &[Message<'_, F>],
+        store: &mut [F],
+        column: &mut [F],
+    ) -> Result<(), Refusal>
+        requires { self.heard ≡ replicate 20 false }
+        ensures answer { refusal result ≡ earliest (asked self.lost.cabinet.size.m self.lost.number (length store.old) (length column.old) messages.now) }
+        ensures column { MatchResult result (λ _. Renewed F.symbols F.value self.lost.cabinet.size.m self.lost.number messages.now store.new column.new) (λ _. column.new ≡ column.old) }
+        ensures store { store.new ≡ filled self.lost.cabinet.size.m self.lost.number [] messages.now store.old }
+    {
+        self.hear_all(messages, store)?;
+        let complete = self.close()?;
+        complete.column(store, column)?;
+        Ok(())
+    }
+}
+
 // Gathers the halves that messages bring, and writes the lost column. Refused
 // by a size, too few marks or a box that does not fit, by the first message
 // that does not, by a helper that is missing, and by a length: the column is
@@ -167,15 +187,9 @@ pub fn gather<F: Quotients>(
     store: &mut [F],
     column: &mut [F],
 ) -> Result<(), Refusal>
-    ensures answer { refusal result ≡ earliest (opening F.symbols m lost ++ reasons m lost (length store.old) [] messages.now ++ unheard (missing (3 * m + 2) lost (sent messages.now)) ∷ wrong_lengths ((length store.old, (3 * m + 1) * 2 ^ (m - 1)) ∷ (length column.old, 2 ^ m) ∷ []) ∷ []) }
-    ensures file { IfOk result (λ _. (f : File (full F.symbols m)) → BringHalves F.symbols F.value m lost f messages.now → Holds F.symbols F.value (2 ^ m) column.new (f (lost - 1))) }
-    ensures given { MatchResult result (λ _. Given (full F.symbols m) (lost - 1) (parts F.symbols F.value (2 ^ (m - 1)) store.new) (at F.symbols F.value column.new)) (λ _. column.new ≡ column.old) }
-    ensures placed { IfOk result (λ _. All (Heard m lost store.new) messages.now) }
+    ensures answer { refusal result ≡ earliest (opening F.symbols m lost ++ asked m lost (length store.old) (length column.old) messages.now) }
+    ensures column { MatchResult result (λ _. Renewed F.symbols F.value m lost messages.now store.new column.new) (λ _. column.new ≡ column.old) }
     ensures store { store.new ≡ (if is_some (earliest (opening F.symbols m lost)) then store.old else filled m lost [] messages.now store.old) }
 {
-    let mut gathering = Gathering::begin(m, lost)?;
-    gathering.hear_all(messages, store)?;
-    let complete = gathering.close()?;
-    complete.column(store, column)?;
-    Ok(())
+    Gathering::begin(m, lost)?.finish(messages, store, column)
 }
