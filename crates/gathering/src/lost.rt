@@ -1,7 +1,8 @@
 // A data box that is lost, and its helpers.
 ghost use Rattle.std.specs.Prelude.{◌≡◌, ℕ, ◌+◌, ◌-◌, ◌*◌, ◌^◌, ◌<◌, ◌≤◌, ◌≢◌, [], ◌∷◌, IfOk};
 ghost use Rattle.code.specs.Recovery.{seat as seated};
-ghost use Rattle.refusal.specs.Refusals.{earliest, few_marks, no_box, parity_box, refusal, wrong_size};
+ghost use Rattle.refusal.specs.Refusals.{earliest, refusal};
+ghost use Rattle.gathering.specs.Gatherings.{opening};
 
 use boxes::Cabinet;
 use field::Sums;
@@ -20,7 +21,7 @@ pub(crate) struct Lost<F: Sums> {
 impl<F: Sums> Lost<F> {
     // Refused by a size, too few marks or a box that does not fit.
     pub(crate) fn new(m: usize, number: usize) -> Result<Self, Refusal>
-        ensures answer { refusal result ≡ earliest (wrong_size m ∷ few_marks F.symbols m ∷ no_box (3 * m + 2) number ∷ parity_box (3 * m) number ∷ []) }
+        ensures answer { refusal result ≡ earliest (opening F.symbols m number) }
         ensures named { IfOk result (λ l. (l.cabinet.size.m ≡ m) × (l.number ≡ number)) }
     {
         let cabinet = Cabinet::new(m)?;

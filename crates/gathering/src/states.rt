@@ -1,12 +1,11 @@
 // The states of a renewal: halves are gathered until every helper has been heard.
-ghost use Rattle.std.specs.Prelude.{◌≡◌, ℕ, ◌+◌, ◌-◌, ◌*◌, ◌^◌, ◌<◌, ◌≤◌, ◌≢◌, [], ◌∷◌, ◌++◌, true, false, not, ◌||◌, ◌==◌, length, if◌then◌else◌, IfOk, MatchResult, slice_set};
-ghost use Rattle.std.proofs.Math.ListN.{replicate};
+ghost use Rattle.std.specs.Prelude.{◌≡◌, ℕ, ◌+◌, ◌-◌, ◌*◌, ◌^◌, ◌<◌, ◌≤◌, ◌≢◌, [], ◌∷◌, ◌++◌, true, false, not, ◌||◌, ◌==◌, length, if◌then◌else◌, IfOk, MatchResult, replicate, slice_set};
 ghost use Rattle.std.specs.List.{All};
 ghost use Rattle.std.specs.Option.{is_some};
 ghost use Rattle.code.specs.Codes.{File, full, Given};
 ghost use Rattle.code.specs.Contents.{Holds, at, parts};
 ghost use Rattle.code.specs.Recovery.{seat as seated};
-ghost use Rattle.refusal.specs.Refusals.{earliest, few_marks, no_box, no_helper, parity_box, refusal, unheard, wrong_lengths, wrong_size};
+ghost use Rattle.refusal.specs.Refusals.{earliest, no_box, no_helper, refusal, unheard, wrong_lengths};
 ghost use Rattle.gathering.specs.Gatherings.{Heard, Renewed, asked, declined, filled, heard_by, missing, opening, reasons, sent, with_half};
 
 use crate::lost::Lost;
@@ -58,10 +57,10 @@ impl<F: Sums> Gathering<F> {
     // Begins with no helper heard. Refused by a size, too few marks or a box
     // that does not fit.
     pub fn begin(m: usize, lost: usize) -> Result<Self, Refusal>
-        ensures answer { refusal result ≡ earliest (wrong_size m ∷ few_marks F.symbols m ∷ no_box (3 * m + 2) lost ∷ parity_box (3 * m) lost ∷ []) }
+        ensures answer { refusal result ≡ earliest (opening F.symbols m lost) }
         ensures size { IfOk result (λ g. g.lost.cabinet.size.m ≡ m) }
         ensures lost { IfOk result (λ g. g.lost.number ≡ lost) }
-        ensures none { IfOk result (λ g. g.heard ≡ replicate 20 false) }
+        ensures none { IfOk result (λ g. g.heard ≡ replicate MOST_BOXES false) }
     {
         let lost = Lost::new(m, lost)?;
         Ok(Gathering {
@@ -92,10 +91,10 @@ impl<F: Sums> Gathering<F> {
     // Hears messages in their order, up to the first that is declined, as the
     // first messages of the gathering.
     fn hear_all(&mut self, messages: &[Message<'_, F>], store: &mut [F]) -> Result<(), Refusal>
-        requires { self.old.heard ≡ replicate 20 false }
+        requires { self.old.heard ≡ replicate MOST_BOXES false }
         ensures answer { refusal result ≡ earliest (reasons self.old.lost.cabinet.size.m self.old.lost.number (length store.old) [] messages.now) }
         ensures lost { self.new.lost ≡ self.old.lost }
-        ensures heard { IfOk result (λ _. (b : ℕ) → 1 ≤ b → b ≤ 20 → heard_by self.new.heard b ≡ sent messages.now b) }
+        ensures heard { IfOk result (λ _. (b : ℕ) → 1 ≤ b → b ≤ MOST_BOXES → heard_by self.new.heard b ≡ sent messages.now b) }
         ensures store { store.new ≡ filled self.old.lost.cabinet.size.m self.old.lost.number [] messages.now store.old }
         ensures placed { IfOk result (λ _. All (Heard self.old.lost.cabinet.size.m self.old.lost.number store.new) messages.now) }
     {
@@ -164,7 +163,7 @@ impl<F: Quotients> Gathering<F> {
         store: &mut [F],
         column: &mut [F],
     ) -> Result<(), Refusal>
-        requires { self.heard ≡ replicate 20 false }
+        requires { self.heard ≡ replicate MOST_BOXES false }
         ensures answer { refusal result ≡ earliest (asked self.lost.cabinet.size.m self.lost.number (length store.old) (length column.old) messages.now) }
         ensures column { MatchResult result (λ _. Renewed F.symbols F.value self.lost.cabinet.size.m self.lost.number messages.now store.new column.new) (λ _. column.new ≡ column.old) }
         ensures store { store.new ≡ filled self.lost.cabinet.size.m self.lost.number [] messages.now store.old }

@@ -1,4 +1,4 @@
-use Rattle.std.proofs.Common.{◌≡◌, ◌+◌, ◌-◌, ◌*◌, ◌^◌, length, [], ◌∷◌, Some, refl, sym, ap, ◌∙◌, arith, rules}
+use Rattle.std.proofs.Common.{◌≡◌, ◌+◌, ◌-◌, ◌*◌, ◌^◌, length, [], ◌∷◌, Some, refl, sym, ap, ◌∙◌, rules}
 use Rattle.code.specs.Contents.{at}
 use Rattle.columns.proofs.Names.{given_by}
 use Rattle.refusal.specs.Refusals.{earliest, refusal, wrong_lengths}
