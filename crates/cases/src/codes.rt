@@ -15,7 +15,7 @@ use std::process::Abort;
 use std::test::Fail;
 
 // Symbols by their numbers.
-fn symbols<F: Sums>(alloc: Global, numbers: &[u32]) -> Result<Vec<F>, Fail> {
+pub(crate) fn symbols<F: Sums>(alloc: Global, numbers: &[u32]) -> Result<Vec<F>, Fail> {
     let mut symbols = Vec::new(alloc);
     for &n in numbers {
         symbols.push(symbol(n)?)?;
@@ -23,7 +23,7 @@ fn symbols<F: Sums>(alloc: Global, numbers: &[u32]) -> Result<Vec<F>, Fail> {
     Ok(symbols)
 }
 
-fn are<F: Sums>(rt: &impl Abort, symbols: &[F], numbers: &[u32]) {
+pub(crate) fn are<F: Sums>(rt: &impl Abort, symbols: &[F], numbers: &[u32]) {
     assert_eq!(rt; symbols.len(), numbers.len());
     for (symbol, &n) in symbols.iter().zip(numbers) {
         assert_eq!(rt; symbol.number(), n);
@@ -31,7 +31,7 @@ fn are<F: Sums>(rt: &impl Abort, symbols: &[F], numbers: &[u32]) {
 }
 
 // By number, as a refusal is known outside.
-fn refused(rt: &impl Abort, answer: Result<(), Refusal>, number: u32) {
+pub(crate) fn refused(rt: &impl Abort, answer: Result<(), Refusal>, number: u32) {
     assert_eq!(rt; answer.map_err(Refusal::number), Err(number));
 }
 
@@ -254,6 +254,11 @@ fn refusal_texts(rt: HostRuntime) -> Result<(), Fail> {
         (Refusal::Length, "a buffer has the wrong length"),
         (Refusal::NoBox, "there is no box of that number"),
         (Refusal::Parity, "the box is a parity box"),
+        (
+            Refusal::Helper,
+            "the helper is the lost box, or has been heard already",
+        ),
+        (Refusal::Unheard, "a helper has not been heard yet"),
     ];
     for (why, text) in texts {
         assert_eq!(rt; format!(in rt.alloc(); "{why}")?.as_str(), text);

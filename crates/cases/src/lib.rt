@@ -8,6 +8,8 @@ ghost use Rattle.cases.specs.Worked.{Worked};
 mod codes;
 #[cfg(test)]
 mod fields;
+#[cfg(test)]
+mod gatherings;
 
 // The worked cases are what the definitions of the code give.
 pub fn worked_cases()

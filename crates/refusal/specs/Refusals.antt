@@ -66,3 +66,11 @@ no_box n b = where_holds (nat_lt b 1 || nat_lt n b) NoBox
 -- not one of the data boxes 1 to n
 abbrev pub parity_box : ℕ → ℕ → Reason
 parity_box n b = where_holds (nat_lt n b) Parity
+
+-- the lost box, or a helper that has been heard already
+abbrev pub no_helper : ℕ → ℕ → Bool → Reason
+no_helper lost b heard = where_holds (b == lost || heard) Helper
+
+-- a helper has not been heard yet
+abbrev pub unheard : Bool → Reason
+unheard missing = where_holds missing Unheard

@@ -2,7 +2,7 @@
 #![tactic(auto)]
 
 ghost use Rattle.std.specs.Prelude.{◌≡◌, ℕ, ◌*◌, ◌≤◌, ◌<◌, ◌||◌, nat_lt, Some};
-ghost use Rattle.refusal.specs.Refusals.{any_wrong, earliest as first, few_marks as too_few_marks, no_box, number as number_of, parity_box, refusal, text, wrong_lengths as wrong_length, wrong_size};
+ghost use Rattle.refusal.specs.Refusals.{any_wrong, earliest as first, few_marks as too_few_marks, no_box, no_helper, number as number_of, parity_box, refusal, text, unheard, wrong_lengths as wrong_length, wrong_size};
 
 use field::Sums;
 use std::error::Error;
@@ -138,6 +138,26 @@ pub fn holding_data(n: usize, b: usize) -> Result<(), Refusal>
 {
     if n < b {
         return Err(Refusal::Parity);
+    }
+    Ok(())
+}
+
+// Refuses a helper that is the lost box, or that has been heard already.
+pub fn helping(lost: usize, helper: usize, heard: bool) -> Result<(), Refusal>
+    ensures { refusal result ≡ no_helper lost helper heard }
+{
+    if helper == lost || heard {
+        return Err(Refusal::Helper);
+    }
+    Ok(())
+}
+
+// Refuses as long as a helper is missing.
+pub fn all_heard(missing: bool) -> Result<(), Refusal>
+    ensures { refusal result ≡ unheard missing }
+{
+    if missing {
+        return Err(Refusal::Unheard);
     }
     Ok(())
 }
