@@ -1,16 +1,19 @@
 // A cabinet keeps a recipient's levels in six data boxes and two parity boxes.
-// One data box is lost, and is renewed from half of each other column.
+// One data box is lost, and is renewed from half of each other column, in
+// whatever order the halves arrive. Then two are lost, and are decoded from the
+// whole columns of the others.
 #![tactic(auto)]
 
 ghost use Rattle.std.specs.Prelude.{◌≡◌};
-ghost use Rattle.std.specs.Slice.Iter.{chunks_exact_size};
 
+use anyhow::Context;
 use byte_field::Byte;
-use columns::{half, parities, restore};
+use columns::{half, parities};
+use decoding::decode;
 use field::Sums;
+use gathering::{Message, gather};
 use std::alloc::Global;
 use std::fmt;
-use std::slice::ChunksExact;
 
 // The size m: columns of 2^m symbols, 3m data boxes.
 const SIZE: usize = 2;
@@ -31,13 +34,21 @@ const SYMBOLS: usize = DATA_BOXES * ROWS;
 
 const LOST: usize = 3;
 
+// The boxes that are left, each with a half for the lost one.
+const HELPERS: usize = BOXES - 1;
+
+// Their halves arrive in this order.
+const ARRIVING: [usize; HELPERS] = [6, 1, 8, 4, 2, 7, 5];
+
+const OUT: [usize; 2] = [2, 5];
+
 // Threshold and comfort levels, box after box.
 const LEVELS: [u8; SYMBOLS] = [
     101, 104, 98, 107, 188, 192, 181, 196, 110, 113, 109, 95, 201, 205, 199, 187, 92, 90, 88, 103,
     176, 180, 171, 168,
 ];
 
-// Symbols of a box as they are printed.
+// A box and its symbols, or its half, as they are printed.
 #[derive(Drop)]
 struct Line<'a> {
     number: usize,
@@ -54,45 +65,75 @@ impl fmt::Display for Line<'_> {
     }
 }
 
-// The columns of all boxes, one after another, the parities last.
-#[derive(Drop)]
+// The columns of all boxes: those of the file one after another, and the parities.
+#[derive(Clone, Copy)]
 struct Cabinet {
-    symbols: Vec<Byte>,
+    file: [Byte; SYMBOLS],
+    first: [Byte; ROWS],
+    second: [Byte; ROWS],
 }
 
 impl Cabinet {
     // Keeps levels, and beside them the parities that are worked out from them.
-    fn new(alloc: Global, levels: &[u8]) -> anyhow::Result<Cabinet> {
-        let mut symbols: Vec<Byte> = levels.iter().copied().map(Byte).collect(alloc)?;
+    fn new(levels: [u8; SYMBOLS]) -> anyhow::Result<Cabinet> {
+        let file = levels.map(Byte);
         let mut first = [Byte(0); ROWS];
         let mut second = [Byte(0); ROWS];
-        parities(SIZE, &symbols, &mut first, &mut second)?;
-        symbols.extend_from_slice(&first)?;
-        symbols.extend_from_slice(&second)?;
-        Ok(Cabinet { symbols })
-    }
-
-    fn columns(&self) -> ChunksExact<'_, Byte>
-        ensures { chunks_exact_size result ≡ ROWS }
-    {
-        self.symbols.chunks_exact(ROWS)
+        parities(SIZE, &file, &mut first, &mut second)?;
+        Ok(Cabinet {
+            file,
+            first,
+            second,
+        })
     }
 
     fn column(&self, number: usize) -> Option<&[Byte]> {
-        self.columns().nth(number.checked_sub(1)?)
+        let parities = [&self.first[..], &self.second[..]];
+        let mut columns = self.file.chunks_exact(ROWS).chain(parities);
+        columns.nth(number.checked_sub(1)?)
     }
 
-    // What the other boxes send for a lost one: the halves of their columns, in rising order.
-    fn halves(&self, alloc: Global, lost: usize) -> anyhow::Result<Halves> {
-        let mut symbols = Vec::new(alloc);
-        for (number, column) in (1..=BOXES).zip(self.columns()) {
-            if number != lost {
-                let mut sent = [Byte(0); PAIRS];
-                half(SIZE, lost, column, &mut sent)?;
-                symbols.extend_from_slice(&sent)?;
+    fn line(&self, number: usize) -> anyhow::Result<Line<'_>> {
+        let symbols = self.column(number).context("no such box")?;
+        Ok(Line { number, symbols })
+    }
+
+    // What a helper sends for a lost box: the half of its column.
+    fn half(&self, lost: usize, helper: usize) -> anyhow::Result<Sent> {
+        let mut symbols = [Byte(0); PAIRS];
+        half(SIZE, lost, self.line(helper)?.symbols, &mut symbols)?;
+        Ok(Sent { helper, symbols })
+    }
+
+    fn halves(&self, alloc: Global, lost: usize, helpers: &[usize]) -> anyhow::Result<Halves> {
+        let mut sent = Vec::new(alloc);
+        for helper in helpers {
+            sent.push(self.half(lost, *helper)?)?;
+        }
+        Ok(Halves { lost, sent })
+    }
+
+    // Loses the columns of data boxes.
+    fn lose(&mut self, out: &[usize]) {
+        for number in out {
+            let place = number.saturating_sub(1);
+            if let Some(column) = self.file.chunks_exact_mut(ROWS).nth(place) {
+                column.fill(Byte(0));
             }
         }
-        Ok(Halves { lost, symbols })
+    }
+
+    // The cabinet with the columns of the boxes out decoded from the others.
+    fn decoded(&self, out: &[usize]) -> anyhow::Result<Cabinet> {
+        let mut cabinet = *self;
+        decode(
+            SIZE,
+            out,
+            &mut cabinet.file,
+            &mut cabinet.first,
+            &mut cabinet.second,
+        )?;
+        Ok(cabinet)
     }
 }
 
@@ -102,25 +143,42 @@ impl fmt::Display for Cabinet {
             f,
             "A cabinet of {DATA_BOXES} data boxes and {PARITIES} parity boxes, {ROWS} symbols in each:"
         )?;
-        for (number, symbols) in (1..=BOXES).zip(self.columns()) {
-            writeln!(f, "{}", Line { number, symbols })?;
+        for number in 1..=BOXES {
+            if let Some(symbols) = self.column(number) {
+                writeln!(f, "{}", Line { number, symbols })?;
+            }
         }
         Ok(())
     }
 }
 
-// The halves that all boxes but the lost one send.
+// The half that a helper sends.
+#[derive(Drop)]
+struct Sent {
+    helper: usize,
+    symbols: [Byte; PAIRS],
+}
+
+// The halves that are sent for a lost box, in the order in which they arrive.
 #[derive(Drop)]
 struct Halves {
     lost: usize,
-    symbols: Vec<Byte>,
+    sent: Vec<Sent>,
 }
 
 impl Halves {
     // The lost column.
-    fn renew(&self) -> anyhow::Result<[Byte; ROWS]> {
+    fn renew(&self, alloc: Global) -> anyhow::Result<[Byte; ROWS]> {
+        let mut messages = Vec::new(alloc);
+        for sent in &self.sent {
+            messages.push(Message {
+                helper: sent.helper,
+                half: &sent.symbols,
+            })?;
+        }
+        let mut store = [Byte(0); HELPERS * PAIRS];
         let mut column = [Byte(0); ROWS];
-        restore(SIZE, self.lost, &self.symbols, &mut column)?;
+        gather(SIZE, self.lost, &messages, &mut store, &mut column)?;
         Ok(column)
     }
 }
@@ -128,21 +186,26 @@ impl Halves {
 impl fmt::Display for Halves {
     fn fmt<W: fmt::Write>(&self, f: &mut fmt::Formatter<W>) -> fmt::Result {
         let lost = self.lost;
-        writeln!(f, "Box {lost} is lost. The others send their halves:")?;
-        let helpers = (1..=BOXES).filter(|number| *number != lost);
-        for (number, symbols) in helpers.zip(self.symbols.chunks_exact(PAIRS)) {
-            writeln!(f, "{}", Line { number, symbols })?;
+        writeln!(
+            f,
+            "Box {lost} is lost. The others send their halves, which arrive in this order:"
+        )?;
+        for sent in &self.sent {
+            let line = Line {
+                number: sent.helper,
+                symbols: &sent.symbols,
+            };
+            writeln!(f, "{line}")?;
         }
         Ok(())
     }
 }
 
-fn run(rt: &(impl Print + AllocGlobal)) -> anyhow::Result<()> {
-    let cabinet = Cabinet::new(rt.alloc(), &LEVELS)?;
-    print!(rt; "{cabinet}")?;
-    let halves = cabinet.halves(rt.alloc(), LOST)?;
+// One box is lost, and renewed from halves.
+fn renew(rt: &(impl Print + AllocGlobal), cabinet: &Cabinet) -> anyhow::Result<()> {
+    let halves = cabinet.halves(rt.alloc(), LOST, &ARRIVING)?;
     print!(rt; "{halves}")?;
-    let renewed = halves.renew()?;
+    let renewed = halves.renew(rt.alloc())?;
     rt.println("Renewed from them:")?;
     rt.println(Line {
         number: LOST,
@@ -153,9 +216,34 @@ fn run(rt: &(impl Print + AllocGlobal)) -> anyhow::Result<()> {
     } else {
         "It is not the lost column."
     })?;
-    let taken = halves.symbols.len();
+    let taken = halves.sent.len().saturating_mul(PAIRS);
     println!(rt; "Numbers taken: {taken}. Whole columns would have cost {SYMBOLS}.")?;
     Ok(())
+}
+
+// Two boxes are out, and decoded from the columns of the others.
+fn decode_two(rt: &impl Print, cabinet: &Cabinet) -> anyhow::Result<()> {
+    let mut left = *cabinet;
+    left.lose(&OUT);
+    let decoded = left.decoded(&OUT)?;
+    let [a, b] = OUT;
+    println!(rt; "Boxes {a} and {b} are out. Decoded from the columns of the others:")?;
+    for number in OUT {
+        rt.println(decoded.line(number)?)?;
+    }
+    rt.println(if decoded.file == cabinet.file {
+        "They are the lost columns."
+    } else {
+        "They are not the lost columns."
+    })?;
+    Ok(())
+}
+
+fn run(rt: &(impl Print + AllocGlobal)) -> anyhow::Result<()> {
+    let cabinet = Cabinet::new(LEVELS)?;
+    print!(rt; "{cabinet}")?;
+    renew(rt, &cabinet)?;
+    decode_two(rt, &cabinet)
 }
 
 fn main(rt: HostRuntime) -> anyhow::Result<()> {
