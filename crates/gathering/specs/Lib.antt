@@ -1,1 +1,2 @@
 pub mod Gatherings
+pub mod States

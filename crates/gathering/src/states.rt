@@ -6,6 +6,7 @@ ghost use Rattle.code.specs.Codes.{File, full, Given};
 ghost use Rattle.code.specs.Contents.{Holds, at, parts};
 ghost use Rattle.code.specs.Recovery.{seat as seated};
 ghost use Rattle.refusal.specs.Refusals.{earliest, no_box, no_helper, refusal, unheard, wrong_lengths};
+ghost use Rattle.gathering.specs.States.{SameLost, flags, lost_box, size_of};
 ghost use Rattle.gathering.specs.Gatherings.{Heard, Renewed, asked, declined, filled, heard_by, missing, opening, reasons, sent, with_half};
 
 use crate::lost::Lost;
@@ -42,8 +43,8 @@ pub struct Gathering<F: Sums> {
 // A gathering that has heard every helper.
 #[derive(Drop)]
 pub struct Complete<F: Sums> {
-    gathering: Gathering<F>,
-    ghost whole: { missing (3 * gathering.lost.cabinet.size.m + 2) gathering.lost.number (heard_by gathering.heard) ≡ false },
+    pub gathering: Gathering<F>,
+    ghost whole: { missing (3 * size_of gathering + 2) (lost_box gathering) (heard_by (flags gathering)) ≡ false },
 }
 
 // One message: the number of a helper and the half that it sends.
@@ -58,9 +59,9 @@ impl<F: Sums> Gathering<F> {
     // that does not fit.
     pub fn begin(m: usize, lost: usize) -> Result<Self, Refusal>
         ensures answer { refusal result ≡ earliest (opening F.symbols m lost) }
-        ensures size { IfOk result (λ g. g.lost.cabinet.size.m ≡ m) }
-        ensures lost { IfOk result (λ g. g.lost.number ≡ lost) }
-        ensures none { IfOk result (λ g. g.heard ≡ replicate MOST_BOXES false) }
+        ensures size { IfOk result (λ g. size_of g ≡ m) }
+        ensures lost { IfOk result (λ g. lost_box g ≡ lost) }
+        ensures none { IfOk result (λ g. flags g ≡ replicate MOST_BOXES false) }
     {
         let lost = Lost::new(m, lost)?;
         Ok(Gathering {
@@ -72,10 +73,10 @@ impl<F: Sums> Gathering<F> {
     // Puts the half of a helper into the store, at the helper's place. Refused,
     // with nothing written, by a length or a helper that does not fit.
     pub fn hear(&mut self, helper: usize, half: &[F], store: &mut [F]) -> Result<(), Refusal>
-        ensures answer { let m = self.old.lost.cabinet.size.m in refusal result ≡ earliest (wrong_lengths ((length half.now, 2 ^ (m - 1)) ∷ (length store.old, (3 * m + 1) * 2 ^ (m - 1)) ∷ []) ∷ no_box (3 * m + 2) helper ∷ no_helper self.old.lost.number helper (heard_by self.old.heard helper) ∷ []) }
-        ensures lost { self.new.lost ≡ self.old.lost }
-        ensures heard { MatchResult result (λ _. self.new.heard ≡ slice_set self.old.heard (helper - 1) true) (λ _. self.new.heard ≡ self.old.heard) }
-        ensures store { MatchResult result (λ _. store.new ≡ with_half (2 ^ (self.old.lost.cabinet.size.m - 1)) (seated (self.old.lost.number - 1) (helper - 1)) half.now store.old) (λ _. store.new ≡ store.old) }
+        ensures answer { let m = size_of self.old in let lost = lost_box self.old in refusal result ≡ earliest (wrong_lengths ((length half.now, 2 ^ (m - 1)) ∷ (length store.old, (3 * m + 1) * 2 ^ (m - 1)) ∷ []) ∷ no_box (3 * m + 2) helper ∷ no_helper lost helper (heard_by (flags self.old) helper) ∷ []) }
+        ensures lost { SameLost self.new self.old }
+        ensures heard { MatchResult result (λ _. flags self.new ≡ slice_set (flags self.old) (helper - 1) true) (λ _. flags self.new ≡ flags self.old) }
+        ensures store { let m = size_of self.old in let lost = lost_box self.old in MatchResult result (λ _. store.new ≡ with_half (2 ^ (m - 1)) (seated (lost - 1) (helper - 1)) half.now store.old) (λ _. store.new ≡ store.old) }
     {
         let boxes = self.lost.cabinet.size.boxes();
         let pairs = self.lost.cabinet.size.pairs();
@@ -91,12 +92,12 @@ impl<F: Sums> Gathering<F> {
     // Hears messages in their order, up to the first that is declined, as the
     // first messages of the gathering.
     fn hear_all(&mut self, messages: &[Message<'_, F>], store: &mut [F]) -> Result<(), Refusal>
-        requires { self.old.heard ≡ replicate MOST_BOXES false }
-        ensures answer { refusal result ≡ earliest (reasons self.old.lost.cabinet.size.m self.old.lost.number (length store.old) [] messages.now) }
-        ensures lost { self.new.lost ≡ self.old.lost }
-        ensures heard { IfOk result (λ _. (b : ℕ) → 1 ≤ b → b ≤ MOST_BOXES → heard_by self.new.heard b ≡ sent messages.now b) }
-        ensures store { store.new ≡ filled self.old.lost.cabinet.size.m self.old.lost.number [] messages.now store.old }
-        ensures placed { IfOk result (λ _. All (Heard self.old.lost.cabinet.size.m self.old.lost.number store.new) messages.now) }
+        requires { flags self.old ≡ replicate MOST_BOXES false }
+        ensures answer { let m = size_of self.old in let lost = lost_box self.old in refusal result ≡ earliest (reasons m lost (length store.old) [] messages.now) }
+        ensures lost { SameLost self.new self.old }
+        ensures heard { IfOk result (λ _. (b : ℕ) → 1 ≤ b → b ≤ MOST_BOXES → heard_by (flags self.new) b ≡ sent messages.now b) }
+        ensures store { let m = size_of self.old in let lost = lost_box self.old in store.new ≡ filled m lost [] messages.now store.old }
+        ensures placed { let m = size_of self.old in let lost = lost_box self.old in IfOk result (λ _. All (Heard m lost store.new) messages.now) }
     {
         for message in messages {
             self.hear(message.helper, message.half, store)?;
@@ -107,15 +108,15 @@ impl<F: Sums> Gathering<F> {
     // Is a box a helper that is still to be heard?
     fn awaits(&self, b: usize) -> bool
         requires first { 1 ≤ b }
-        requires last { b ≤ 3 * self.now.lost.cabinet.size.m + 2 }
-        ensures { result ≡ not (b == self.now.lost.number || heard_by self.now.heard b) }
+        requires last { let m = size_of self.now in b ≤ 3 * m + 2 }
+        ensures { let lost = lost_box self.now in result ≡ not (b == lost || heard_by (flags self.now) b) }
     {
         b != self.lost.number && !self.heard[b - 1]
     }
 
     // Is a helper still to be heard?
     fn is_waiting(&self) -> bool
-        ensures { result ≡ missing (3 * self.now.lost.cabinet.size.m + 2) self.now.lost.number (heard_by self.now.heard) }
+        ensures { let m = size_of self.now in let lost = lost_box self.now in result ≡ missing (3 * m + 2) lost (heard_by (flags self.now)) }
     {
         let boxes = self.lost.cabinet.size.boxes() + 2;
         for b in 1..boxes + 1 {
@@ -128,7 +129,7 @@ impl<F: Sums> Gathering<F> {
 
     // Ends the gathering. Refused, with the gathering given back, as long as a helper is missing.
     pub fn close(self) -> Result<Complete<F>, Declined<Self>>
-        ensures answer { declined result ≡ unheard (missing (3 * self.lost.cabinet.size.m + 2) self.lost.number (heard_by self.heard)) }
+        ensures answer { let m = size_of self in let lost = lost_box self in declined result ≡ unheard (missing (3 * m + 2) lost (heard_by (flags self))) }
         ensures kept { MatchResult result (λ c. c.gathering ≡ self) (λ d. d.state ≡ self) }
     {
         match all_heard(self.is_waiting()) {
@@ -142,8 +143,8 @@ impl<F: Quotients> Complete<F> {
     // Writes the column that the store's halves give. Refused, with nothing
     // written and itself given back, by a length that does not fit.
     pub fn column(self, store: &[F], into: &mut [F]) -> Result<(), Declined<Self>>
-        ensures answer { let m = self.gathering.lost.cabinet.size.m in declined result ≡ earliest (wrong_lengths ((length store.now, (3 * m + 1) * 2 ^ (m - 1)) ∷ (length into.old, 2 ^ m) ∷ []) ∷ []) }
-        ensures column { let m = self.gathering.lost.cabinet.size.m in MatchResult result (λ _. Given (full F.symbols m) (self.gathering.lost.number - 1) (parts F.symbols F.value (2 ^ (m - 1)) store.now) (at F.symbols F.value into.new)) (λ d. (into.new ≡ into.old) × (d.state ≡ self)) }
+        ensures answer { let m = size_of self.gathering in declined result ≡ earliest (wrong_lengths ((length store.now, (3 * m + 1) * 2 ^ (m - 1)) ∷ (length into.old, 2 ^ m) ∷ []) ∷ []) }
+        ensures column { let m = size_of self.gathering in let lost = lost_box self.gathering in MatchResult result (λ _. Given (full F.symbols m) (lost - 1) (parts F.symbols F.value (2 ^ (m - 1)) store.now) (at F.symbols F.value into.new)) (λ d. (into.new ≡ into.old) × (d.state ≡ self)) }
     {
         restore(
             self.gathering.lost.cabinet.size.m,
@@ -163,10 +164,10 @@ impl<F: Quotients> Gathering<F> {
         store: &mut [F],
         column: &mut [F],
     ) -> Result<(), Refusal>
-        requires { self.heard ≡ replicate MOST_BOXES false }
-        ensures answer { refusal result ≡ earliest (asked self.lost.cabinet.size.m self.lost.number (length store.old) (length column.old) messages.now) }
-        ensures column { MatchResult result (λ _. Renewed F.symbols F.value self.lost.cabinet.size.m self.lost.number messages.now store.new column.new) (λ _. column.new ≡ column.old) }
-        ensures store { store.new ≡ filled self.lost.cabinet.size.m self.lost.number [] messages.now store.old }
+        requires { flags self ≡ replicate MOST_BOXES false }
+        ensures answer { let m = size_of self in let lost = lost_box self in refusal result ≡ earliest (asked m lost (length store.old) (length column.old) messages.now) }
+        ensures column { let m = size_of self in let lost = lost_box self in MatchResult result (λ _. Renewed F.symbols F.value m lost messages.now store.new column.new) (λ _. column.new ≡ column.old) }
+        ensures store { let m = size_of self in let lost = lost_box self in store.new ≡ filled m lost [] messages.now store.old }
     {
         self.hear_all(messages, store)?;
         let complete = self.close()?;
