@@ -2,8 +2,8 @@
 ghost use Rattle.std.specs.Prelude.{◌≡◌, ℕ, ◌+◌, ◌-◌, ◌*◌, ◌^◌, ◌<◌, ◌≤◌, ◌≢◌, [], ◌∷◌, ◌++◌, true, false, not, ◌||◌, ◌==◌, length, if◌then◌else◌, IfOk, MatchResult, replicate, slice_set};
 ghost use Rattle.std.specs.List.{All};
 ghost use Rattle.std.specs.Option.{is_some};
-ghost use Rattle.code.specs.Codes.{File, full, Given};
-ghost use Rattle.code.specs.Contents.{Holds, at, parts};
+ghost use Rattle.code.specs.Codes.{full, Given};
+ghost use Rattle.code.specs.Contents.{at, parts};
 ghost use Rattle.code.specs.Recovery.{seat as seated};
 ghost use Rattle.refusal.specs.Refusals.{earliest, no_box, no_helper, refusal, unheard, wrong_lengths};
 ghost use Rattle.gathering.specs.States.{SameLost, flags, lost_box, size_of};
