@@ -23,7 +23,7 @@ fn symbols<F: Sums>(alloc: Global, numbers: &[u32]) -> Result<Vec<F>, Fail> {
     Ok(symbols)
 }
 
-fn are<F: Sums>(rt: &impl Abort, symbols: &[F], numbers: &[u32]) {
+pub(crate) fn are<F: Sums>(rt: &impl Abort, symbols: &[F], numbers: &[u32]) {
     assert_eq!(rt; symbols.len(), numbers.len());
     for (symbol, &n) in symbols.iter().zip(numbers) {
         assert_eq!(rt; symbol.number(), n);
@@ -31,7 +31,7 @@ fn are<F: Sums>(rt: &impl Abort, symbols: &[F], numbers: &[u32]) {
 }
 
 // By number, as a refusal is known outside.
-fn refused(rt: &impl Abort, answer: Result<(), Refusal>, number: u32) {
+pub(crate) fn refused(rt: &impl Abort, answer: Result<(), Refusal>, number: u32) {
     assert_eq!(rt; answer.map_err(Refusal::number), Err(number));
 }
 
