@@ -1,102 +1,84 @@
 // Decoding against the worked case of the small cabinet, and against columns worked out by hand.
-ghost use Rattle.std.specs.Prelude.{◌≤◌};
-
 use crate::codes::{are, refused};
+use crate::fields::symbol;
 use byte_field::Byte;
 use decoding::decode;
 use field::{Quotients, Sums};
 use prime::five::Five;
-use refusal::Refusal;
 use std::process::Abort;
 use std::test::Fail;
 
-// The columns of the five boxes of a cabinet over five, m = 1, one after
-// another: three of data, then the two parities.
-type Columns = [Five; 10];
+// By numbers, the columns of the five boxes of a cabinet over five, m = 1, one
+// after another: three of data, then the two parities.
+type Columns = [u32; 10];
 
-const COLUMNS: Columns = [
-    Five::One,
-    Five::Two,
-    Five::Three,
-    Five::Four,
-    Five::Zero,
-    Five::One,
-    Five::Four,
-    Five::Two,
-    Five::Two,
-    Five::One,
-];
+const COLUMNS: Columns = [1, 2, 3, 4, 0, 1, 4, 2, 2, 1];
 
-fn decode_small(out: &[usize], columns: &mut Columns) -> Result<(), Refusal> {
-    let (file, parities) = columns.split_at_mut(6);
-    let (first, second) = parities.split_at_mut(2);
-    decode(1, out, file, first, second)
-}
+// Other symbols for each place.
+const OTHERS: Columns = [3, 0, 2, 2, 4, 3, 1, 1, 0, 3];
 
-// Other symbols in the boxes that are out.
-fn overwrite(out: &[usize], columns: &mut Columns) {
-    for (place, symbol) in columns.iter_mut().enumerate() {
+// The small cabinet, with other symbols in the boxes that are out.
+fn overwritten(out: &[usize]) -> Columns {
+    let mut columns = COLUMNS;
+    for (place, number) in columns.iter_mut().enumerate() {
         if out.contains(&(place / 2 + 1)) {
-            *symbol = symbol.sum(Five::One);
+            *number = OTHERS[place];
         }
     }
+    columns
 }
 
-// Whatever stands in the boxes that are out, all five columns are there afterwards.
-fn comes_back(rt: &impl Abort, out: &[usize]) -> Result<(), Fail> {
-    let mut columns = COLUMNS;
-    overwrite(out, &mut columns);
-    decode_small(out, &mut columns)?;
-    are(rt, &columns, &[1, 2, 3, 4, 0, 1, 4, 2, 2, 1]);
+fn symbols(numbers: &Columns) -> Result<[Five; 10], Fail> {
+    let mut symbols = [Five::Zero; 10];
+    for (place, made) in symbols.iter_mut().enumerate() {
+        *made = symbol(numbers[place])?;
+    }
+    Ok(symbols)
+}
+
+// What stands in the five boxes before, and after decoding.
+fn decodes(rt: &impl Abort, out: &[usize], before: &Columns, after: &Columns) -> Result<(), Fail> {
+    let mut columns = symbols(before)?;
+    let (file, parities) = columns.split_at_mut(6);
+    let (first, second) = parities.split_at_mut(2);
+    decode(1, out, file, first, second)?;
+    are(rt, &columns, after);
     Ok(())
 }
 
 #[test]
 fn boxes_1_and_2(rt: HostRuntime) -> Result<(), Fail> {
-    comes_back(&rt, &[1, 2])
+    decodes(&rt, &[1, 2], &[3, 0, 2, 2, 0, 1, 4, 2, 2, 1], &COLUMNS)
 }
 
-// Each choice of one or two boxes; where y is x, one box named twice.
+// Each choice of one or two boxes; where y is x, one box is named twice.
 #[test]
 fn each_choice(rt: HostRuntime) -> Result<(), Fail> {
     for x in 1..=5 {
-        comes_back(&rt, &[x])?;
+        decodes(&rt, &[x], &overwritten(&[x]), &COLUMNS)?;
         for y in x..=5 {
-            comes_back(&rt, &[x, y])?;
-            comes_back(&rt, &[y, x, y])?;
+            decodes(&rt, &[y, x, y], &overwritten(&[x, y]), &COLUMNS)?;
         }
     }
     Ok(())
 }
 
 // Box 2 is (2, 2) less (1, 2) and (0, 1), by the first parity alone. The second
-// would be (4, 2); it is left as it was until its own box is out.
+// would be (4, 2), and stays as it was until its own box is out.
 #[test]
 fn first_parity_decides(rt: HostRuntime) -> Result<(), Fail> {
-    let mut columns = COLUMNS;
-    overwrite(&[2, 4, 5], &mut columns);
-    columns[6] = Five::Two;
-    columns[7] = Five::Two;
-    decode_small(&[2], &mut columns)?;
-    are(&rt, &columns, &[1, 2, 1, 4, 0, 1, 2, 2, 3, 2]);
-    decode_small(&[], &mut columns)?;
-    are(&rt, &columns, &[1, 2, 1, 4, 0, 1, 2, 2, 3, 2]);
-    decode_small(&[5], &mut columns)?;
-    are(&rt, &columns, &[1, 2, 1, 4, 0, 1, 2, 2, 4, 2]);
-    Ok(())
+    let found = [1, 2, 1, 4, 0, 1, 2, 2, 3, 3];
+    decodes(&rt, &[2], &[1, 2, 0, 0, 0, 1, 2, 2, 3, 3], &found)?;
+    decodes(&rt, &[], &found, &found)?;
+    decodes(&rt, &[5], &found, &[1, 2, 1, 4, 0, 1, 2, 2, 4, 2])
 }
 
-// Box 1, row 1 amended to 0: parities that are out are encoded again.
+// Box 1, row 1 amended to 0: the parities that are out are encoded again.
 #[test]
 fn parities_out(rt: HostRuntime) -> Result<(), Fail> {
-    let mut columns = COLUMNS;
-    columns[1] = Five::Zero;
-    decode_small(&[4], &mut columns)?;
-    are(&rt, &columns, &[1, 0, 3, 4, 0, 1, 4, 0, 2, 1]);
-    overwrite(&[4, 5], &mut columns);
-    decode_small(&[5, 4], &mut columns)?;
-    are(&rt, &columns, &[1, 0, 3, 4, 0, 1, 4, 0, 1, 4]);
-    Ok(())
+    let amended = [1, 0, 3, 4, 0, 1, 4, 2, 2, 1];
+    decodes(&rt, &[4], &amended, &[1, 0, 3, 4, 0, 1, 4, 0, 2, 1])?;
+    decodes(&rt, &[4, 5], &amended, &[1, 0, 3, 4, 0, 1, 4, 0, 1, 4])
 }
 
 // A size, the boxes out, the lengths of the three buffers, and the number of the refusal.
