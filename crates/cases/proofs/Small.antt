@@ -41,22 +41,23 @@ stand = stands (1 ∷ 2 ∷ [])
 abbrev file : File c
 file = boxes five_symbols five 1 small
 
-abbrev columns : List ℕ
-columns = 0 ∷ 0 ∷ 0 ∷ 0 ∷ 0 ∷ 1 ∷ 4 ∷ 2 ∷ 2 ∷ 1 ∷ []
-
-abbrev held : ℕ → Column c
-held = boxes five_symbols five 1 columns
-
 counts : (b : ℕ) → b < 5 → b ≢ 0 → b ≢ 1 → Counts c stand b
 counts = each_box (λ b. b ≢ 0 → b ≢ 1 → Counts c stand b) (λ h k. absurd (h refl)) (λ h k. absurd (k refl)) (λ h k. (refl, lit< tt)) (λ h k. (refl, lit< tt)) (λ h k. (refl, lit< tt))
 
-fits : FitsThem c stand held file
-fits =
-    each_box (λ b. Counts c stand b → Alike c (column c file b) (held b)) (λ h. absurd (false≢true h.0)) (λ h. absurd (false≢true h.0))
-    (λ h. rows _ (same_below _ _ refl) (same_below _ _ refl)) (λ h. rows _ (same_below _ _ refl) (same_below _ _ refl)) (λ h. rows _ (same_below _ _ refl) (same_below _ _ refl))
+module _ (i j k l : ℕ) where
+  abbrev columns : List ℕ
+  columns = i ∷ j ∷ k ∷ l ∷ 0 ∷ 1 ∷ 4 ∷ 2 ∷ 2 ∷ 1 ∷ []
 
--- by the code's laws no other file fits
-pub boxes_1_2 : Decodes five_symbols five (1 ∷ 2 ∷ []) columns small
-boxes_1_2 =
-    let two = (laws c small_proper (inverts 5 above_one prime_5)).any_two 0 1 (lit< tt) (lit< tt) (λ e. omega arith) in
-    record { has = fits; only = λ f h. two.only held f file (λ b l x y. h b l (counts b l x y)) (λ b l x y. fits b l (counts b l x y)) }
+  abbrev held : ℕ → Column c
+  held = boxes five_symbols five 1 columns
+
+  fits : FitsThem c stand held file
+  fits =
+      each_box (λ b. Counts c stand b → Alike c (column c file b) (held b)) (λ h. absurd (false≢true h.0)) (λ h. absurd (false≢true h.0))
+      (λ h. rows _ (same_below _ _ refl) (same_below _ _ refl)) (λ h. rows _ (same_below _ _ refl) (same_below _ _ refl)) (λ h. rows _ (same_below _ _ refl) (same_below _ _ refl))
+
+  -- by the code's laws no other file fits
+  pub boxes_1_2 : Decodes five_symbols five (1 ∷ 2 ∷ []) columns small
+  boxes_1_2 =
+      let two = (laws c small_proper (inverts 5 above_one prime_5)).any_two 0 1 (lit< tt) (lit< tt) (λ e. omega arith) in
+      record { has = fits; only = λ f h. two.only held f file (λ b l x y. h b l (counts b l x y)) (λ b l x y. fits b l (counts b l x y)) }

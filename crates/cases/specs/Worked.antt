@@ -67,8 +67,8 @@ pub record Worked : Type 0 where
   pub five_box_1 : Gives five_symbols five 0 (3 ∷ 0 ∷ 4 ∷ 2 ∷ []) (1 ∷ 2 ∷ [])
   pub five_sent_3 : sent five_symbols five 1 2 small ≡ 3 ∷ 2 ∷ 1 ∷ 3 ∷ []
   pub five_box_3 : Gives five_symbols five 2 (3 ∷ 2 ∷ 1 ∷ 3 ∷ []) (0 ∷ 1 ∷ [])
-  -- what stands in the two boxes that are out plays no part
-  pub five_boxes_1_2 : Decodes five_symbols five (1 ∷ 2 ∷ []) (0 ∷ 0 ∷ 0 ∷ 0 ∷ 0 ∷ 1 ∷ 4 ∷ 2 ∷ 2 ∷ 1 ∷ []) small
+  -- whatever stands in the boxes that are out
+  pub five_boxes_1_2 : (i j k l : ℕ) → Decodes five_symbols five (1 ∷ 2 ∷ []) (i ∷ j ∷ k ∷ l ∷ 0 ∷ 1 ∷ 4 ∷ 2 ∷ 2 ∷ 1 ∷ []) small
   -- box 1, row 1 amended to 0
   pub five_amended : parities five_symbols five 1 (slice_set small 1 0) ≡ 4 ∷ 0 ∷ 1 ∷ 4 ∷ []
   -- m = 2, zero but for 1 at box 4, row 2
