@@ -6,6 +6,8 @@ use Rattle.field.specs.Below.{Below}
 use Rattle.field.specs.Numbers.{residue}
 use Rattle.field.specs.Symbols.{Symbols}
 use Rattle.code.specs.Codes.{full, column, parity1, parity2, half_for, helper, Given}
+use Rattle.code.specs.Standing.{FileOf}
+use Rattle.decoding.specs.Missing.{stands}
 use Rattle.prime.specs.Five.{five_symbols}
 use Rattle.prime.specs.Words.{word_symbols}
 use Rattle.byte_field.specs.Bytes.{byte_symbols}
@@ -39,6 +41,10 @@ module _ (Y : Symbols) (symbol : ℕ → Y.Symbol) where
   abbrev pub Gives : ℕ → List ℕ → List ℕ → Type 0
   Gives x halves xs = Given (full Y 1) x (λ h j. symbol (slice_index halves (h + j))) (λ a. symbol (slice_index xs a))
 
+  -- for m = 1, with the boxes listed out, the one file that the columns of the others give
+  abbrev pub Decodes : List ℕ → List ℕ → List ℕ → Type 0
+  Decodes out columns file = FileOf (full Y 1) (stands out) (boxes 1 columns) (boxes 1 file)
+
 abbrev pub five : ℕ → Below 5
 five = residue 5 (lit< tt)
 
@@ -61,6 +67,8 @@ pub record Worked : Type 0 where
   pub five_box_1 : Gives five_symbols five 0 (3 ∷ 0 ∷ 4 ∷ 2 ∷ []) (1 ∷ 2 ∷ [])
   pub five_sent_3 : sent five_symbols five 1 2 small ≡ 3 ∷ 2 ∷ 1 ∷ 3 ∷ []
   pub five_box_3 : Gives five_symbols five 2 (3 ∷ 2 ∷ 1 ∷ 3 ∷ []) (0 ∷ 1 ∷ [])
+  -- whatever stands in the boxes that are out
+  pub five_boxes_1_2 : (i j k l : ℕ) → Decodes five_symbols five (1 ∷ 2 ∷ []) (i ∷ j ∷ k ∷ l ∷ 0 ∷ 1 ∷ 4 ∷ 2 ∷ 2 ∷ 1 ∷ []) small
   -- box 1, row 1 amended to 0
   pub five_amended : parities five_symbols five 1 (slice_set small 1 0) ≡ 4 ∷ 0 ∷ 1 ∷ 4 ∷ []
   -- m = 2, zero but for 1 at box 4, row 2

@@ -7,6 +7,8 @@ ghost use Rattle.cases.specs.Worked.{Worked};
 #[cfg(test)]
 mod codes;
 #[cfg(test)]
+mod decodings;
+#[cfg(test)]
 mod fields;
 #[cfg(test)]
 mod gatherings;
