@@ -1,5 +1,5 @@
 -- One column of a file lent out, and what the file holds afterwards. Assumes nothing.
-use Rattle.std.proofs.Common.{◌≡◌, ℕ, ◌+◌, ◌-◌, ◌*◌, ◌^◌, ◌<◌, ◌≤◌, List, ◌++◌, map, length, slice_index_or, take, drop, sym, ap, ap₂, ◌∙◌, subst, inl, inr, arith, rules, mul-le-mul_right}
+use Rattle.std.proofs.Common.{◌≡◌, ℕ, ◌+◌, ◌-◌, ◌*◌, ◌^◌, ◌<◌, ◌≤◌, List, ◌++◌, map, length, slice_index_or, take, drop, sym, refl, ap, ap₂, ◌∙◌, subst, inl, inr, arith, rules, mul-le-mul_right}
 use Rattle.std.proofs.lemmas.Bool.{cases_order}
 use Rattle.std.proofs.lemmas.List.{take-map, drop-map, length-map, length-take, length-drop, map-append, get_or-take, get_or-drop, places}
 use Rattle.std.proofs.lemmas.Nat.{mul-add-lt}
@@ -11,7 +11,7 @@ use Rattle.columns.specs.Parities.{share}
 use Rattle.columns.specs.declared.parity.Parity.{Parity}
 use Rattle.columns.proofs.Shares.{share_same}
 use Rattle.columns.proofs.Slices.{part}
-use Rattle.decoding.specs.Steps.{Replaced}
+use Rattle.decoding.specs.Steps.{Kept, Replaced}
 
 -- what stands inside and outside of an overwritten part
 mid_inside : {X : Type 0} (a k : ℕ) (xs ys : List X) (i : ℕ) (d : X) → a ≤ length xs → i < length ys → slice_index_or (put_mid a k xs ys) (a + i) d ≡ slice_index_or ys i d
@@ -68,6 +68,17 @@ module _ (Y : Symbols) {S : Type 0} (v : S → Y.Symbol) where
 
     pub lent_at : (a : ℕ) → a < n → at Y v lent a ≡ parts Y v n xs x a
     lent_at = part Y v xs n x start size is_start is_size
+
+    -- what is written there stands in the file, and the other columns are kept
+    module _ (ys : List S) (e : length ys ≡ length lent) where
+      done : Replaced n x (parts Y v n xs) (at Y v ys) (parts Y v n (put_mid start size xs ys))
+      done = replaced n x start size xs ys (at Y v ys) is_start is_size fits (e ∙ lent_long) (λ a l. refl)
+
+      pub lent_here : (a : ℕ) → a < n → parts Y v n (put_mid start size xs ys) x a ≡ at Y v ys a
+      lent_here = done.here
+
+      pub lent_kept : Kept n x (parts Y v n xs) (parts Y v n (put_mid start size xs ys))
+      lent_kept = done.others
 
     pub lent_replaced : (ys : List S) (C : ℕ → Y.Symbol) → length ys ≡ length lent → ((a : ℕ) → a < n → at Y v ys a ≡ C a) → Replaced n x (parts Y v n xs) C (parts Y v n (put_mid start size xs ys))
     lent_replaced ys C e = replaced n x start size xs ys C is_start is_size fits (e ∙ lent_long)
