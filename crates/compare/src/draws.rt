@@ -8,14 +8,14 @@ use std::alloc::Global;
 // Numbers below a field's size, each from a state that is replaced by
 // (1103515245·state + 12345) modulo 2^31 before it.
 #[derive(Drop)]
-pub struct Draws {
+pub(crate) struct Draws {
     size: u32,
     state: u32,
     ghost some: { 0 < size },
 }
 
 impl Draws {
-    pub fn new(size: u32, state: u32) -> Draws
+    pub(crate) fn new(size: u32, state: u32) -> Draws
         requires { 0 < size }
         ensures { result.size ≡ size }
     {
@@ -36,7 +36,7 @@ impl Draws {
         }
     }
 
-    pub fn symbols<F: Sums>(&mut self, alloc: Global, count: usize) -> anyhow::Result<Vec<F>>
+    pub(crate) fn symbols<F: Sums>(&mut self, alloc: Global, count: usize) -> anyhow::Result<Vec<F>>
         ensures { IfOk result (λ symbols. vec_len symbols ≡ count) }
     {
         let mut symbols = Vec::new(alloc);
