@@ -6,7 +6,6 @@ use Rattle.field.specs.Ring.{Ring}
 use Rattle.field.proofs.Solver.{i, ◌⊕◌, ◌⊖◌, ⊝◌, ◌≐◌, ◌⟸◌, ◌·◌, ring, ring_by}
 use Rattle.code.specs.Blocks.{◌∸◌}
 use Rattle.code.specs.Codes.{Code, Column, File, kind, shift, eigen_p, eigen_q, image, parity1, parity2, sum}
-use Rattle.code.specs.Decoding.{left_sum, left_image}
 use Rattle.code.proofs.Digits.{rows}
 use Rattle.code.proofs.Halves.{after_op}
 use Rattle.code.proofs.Matrices.{mat}
@@ -50,13 +49,20 @@ module _ {A : Type 0} (c : Code A) where
       let T = after_op R rows (kind c b) (shift c b) (eigen_p c b) (eigen_q c b) in
       ap (λ X. X a) (T (λ a. C a − E a) ∙ op_sub R rows (shift c b) (mat R (kind c b) (eigen_p c b) (eigen_q c b)) C E ∙ ap₂ (λ X Y a. X a − Y a) (sym (T C)) (sym (T E)))
 
+  -- what the data boxes but x and y leave of a parity column, once their columns are taken off, or their images
+  abbrev left_sum : ℕ → ℕ → (ℕ → Column c) → Column c → Column c
+  left_sum x y g C a = C a − but_two R n x y (λ b. g b a)
+
+  abbrev left_image : ℕ → ℕ → (ℕ → Column c) → Column c → Column c
+  left_image x y g C a = C a − but_two R n x y (λ b. image c b (g b) a)
+
   -- two data boxes, where S undoes the difference of their blocks
   module _ (x y : ℕ) (S : Column c → Column c) where
     abbrev left1 : (ℕ → Column c) → Column c
-    left1 g = left_sum c x y g (g n)
+    left1 g = left_sum x y g (g n)
 
     abbrev left2 : (ℕ → Column c) → Column c
-    left2 g = left_image c x y g (g (suc n))
+    left2 g = left_image x y g (g (suc n))
 
     abbrev rest : (ℕ → Column c) → Column c
     rest g a = left2 g a − image c y (left1 g) a

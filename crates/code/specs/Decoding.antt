@@ -1,9 +1,8 @@
--- How missing columns follow from the others and the parities: the steps that the inner functions promise.
+-- Matrices that undo blocks: the steps by which missing columns follow from the others, as the inner functions promise them.
 -- That they lead to the one file is proved above them. Assumes nothing.
-use Rattle.std.specs.Prelude.{ℕ, Bool, true, false, if◌then◌else◌, ◌||◌, ◌==◌}
+use Rattle.std.specs.Prelude.{ℕ, Bool, true, false}
 use Rattle.field.specs.Ring.{Ring}
 use Rattle.code.specs.Blocks.{◌∸◌, block}
-use Rattle.code.specs.Codes.{Code, sum, image, data_boxes}
 use Rattle.code.specs.Rows.{odd, digit, partner}
 use Rattle.code.specs.declared.Kind.{Kind}
 use Rattle.code.specs.declared.Kind.TheVariants.{Lower, Upper, Sum}
@@ -61,11 +60,3 @@ module _ {A : Type 0} (R : Ring A) where
   turn k l M C a =
       R.plus (R.times (M (odd (digit l a)) (odd (digit k a)) false) (C (partner k false a)))
       (R.times (M (odd (digit l a)) (odd (digit k a)) true) (C (partner k true a)))
-
-module _ {A : Type 0} (c : Code A) (x y : ℕ) (f : ℕ → ℕ → A) (C : ℕ → A) where
-  -- what is left of the column C once the columns of all data boxes but x and y are taken off, or their images
-  abbrev pub left_sum : ℕ → A
-  left_sum a = ◌∸◌ c.ring (C a) (sum c.ring (data_boxes c) (λ b. if b == x || b == y then c.ring.zero else f b a))
-
-  abbrev pub left_image : ℕ → A
-  left_image a = ◌∸◌ c.ring (C a) (sum c.ring (data_boxes c) (λ b. if b == x || b == y then c.ring.zero else image c b (f b) a))
