@@ -253,6 +253,7 @@ fn refusal_texts(rt: HostRuntime) -> Result<(), Fail> {
         (Refusal::Marks, "the field has too few marks"),
         (Refusal::Length, "a buffer has the wrong length"),
         (Refusal::NoBox, "there is no box of that number"),
+        (Refusal::ManyOut, "three or more boxes are out"),
         (Refusal::Parity, "the box is a parity box"),
         (
             Refusal::Helper,
