@@ -1,5 +1,5 @@
 -- What filling in leads to: the file has the columns of all boxes but two, and it is the one file that has them. Assumes nothing.
-use Rattle.std.proofs.Common.{◌≡◌, ℕ, suc, ◌+◌, ◌^◌, ◌<◌, ◌≤◌, ◌≢◌, Bool, if◌then◌else◌, ◌==◌, nat_lt, sym, refl, ap, ◌∙◌, subst, inl, inr, arith, le-ltb, lt-ltb}
+use Rattle.std.proofs.Common.{◌≡◌, ℕ, suc, ◌+◌, ◌^◌, ◌<◌, ◌≤◌, ◌≢◌, Bool, nat_lt, sym, refl, ap, ◌∙◌, subst, inl, inr, arith, le-ltb, lt-ltb}
 use Rattle.std.proofs.lemmas.Bool.{cases_eq, cond-true, cond-false}
 use Rattle.code.specs.Codes.{Code, Column, File, Alike, data_boxes, parity1, parity2}
 use Rattle.code.specs.Laws.{HasColumns, Laws}
@@ -43,14 +43,6 @@ module _ {A : Type 0} (c : Code A) where
     -- where no data box is out
     pub none_filled : HasColumns c n (suc n) f all
     none_filled = filled n (suc n) f (λ b l h k a m. refl) (λ h k. absurd (h refl)) (λ h k. absurd (k refl))
-
-    -- where one parity box is out
-    pub parity_aside : (x : ℕ) → n ≤ x → x < n + 2 → HasColumns c (if x == suc n then n else x) (suc n) f all
-    parity_aside x l h =
-        elim (cases_eq x (suc n)) [
-          | inl e ↦ subst (λ y. HasColumns c y (suc n) f all) (sym (if_same x (suc n) e n x)) none_filled
-          | inr k ↦ let e : x ≡ n = omega arith in subst (λ y. HasColumns c y (suc n) f all) (sym (if_other x (suc n) k n x ∙ e)) none_filled
-        ]
 
   -- the boxes that are left aside are two boxes
   aside_inside : (s : ℕ → Bool) (found : Missing) → Found s (n + 2) found → ((aside n found).0 < n + 2) × ((aside n found).1 < n + 2) × ((aside n found).0 ≢ (aside n found).1)
