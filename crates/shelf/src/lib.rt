@@ -1,0 +1,62 @@
+// Shelves: boxes of symbols, each standing or out.
+#![tactic(auto)]
+
+ghost use Rattle.std.specs.Prelude.{◌≡◌, ℕ, List};
+ghost use Rattle.shelf.specs.Meaning.{IsShelf, Meaning, box_count, has_row, is_out, is_standing, symbol_at, with_out, with_standing, with_symbol};
+
+// How many boxes a shelf has, and how many rows each box.
+#[derive(Clone, Copy)]
+pub struct Sizes {
+    pub boxes: usize,
+    pub rows: usize,
+}
+
+// Boxes are numbered from 1, rows from 0. Every function takes the shelf for
+// writing: a shelf may have to move something even to answer a question.
+pub trait Shelf {
+    type Symbol: Copy;
+
+    // What the shelf holds, as one plain value.
+    ghost meaning: { Self → Meaning Self.Symbol };
+
+    // Which lent buffers it keeps that in.
+    ghost buffers: { Self → List ℕ };
+
+    fn sizes(&mut self) -> Sizes
+        ensures boxes { result.boxes ≡ box_count (meaning self.old) }
+        ensures rows { result.rows ≡ (meaning self.old).rows }
+        ensures stays { meaning self.new ≡ meaning self.old }
+        ensures lender { buffers self.new ≡ buffers self.old };
+
+    // Whether box b stands.
+    fn stands(&mut self, b: usize) -> bool
+        ensures answer { result ≡ is_standing (meaning self.old) b }
+        ensures stays { meaning self.new ≡ meaning self.old }
+        ensures lender { buffers self.new ≡ buffers self.old };
+
+    // The symbol in row a of box b, absent unless the box stands and has the row.
+    fn fetch(&mut self, b: usize, a: usize) -> Option<Self::Symbol>
+        ensures answer { result ≡ symbol_at (meaning self.old) b a }
+        ensures stays { meaning self.new ≡ meaning self.old }
+        ensures lender { buffers self.new ≡ buffers self.old };
+
+    // Sets the symbol in row a of box b; refused as fetch is.
+    fn store(&mut self, b: usize, a: usize, x: Self::Symbol) -> bool
+        ensures answer { result ≡ has_row (meaning self.old) b a }
+        ensures after { meaning self.new ≡ with_symbol (meaning self.old) b a x }
+        ensures lender { buffers self.new ≡ buffers self.old };
+
+    // Takes out box b; refused unless it stands.
+    fn withdraw(&mut self, b: usize) -> bool
+        ensures answer { result ≡ is_standing (meaning self.old) b }
+        ensures after { meaning self.new ≡ with_out (meaning self.old) b }
+        ensures lender { buffers self.new ≡ buffers self.old };
+
+    // Puts in box b with x in every row; refused unless it is a box that is out.
+    fn insert(&mut self, b: usize, x: Self::Symbol) -> bool
+        ensures answer { result ≡ is_out (meaning self.old) b }
+        ensures after { meaning self.new ≡ with_standing (meaning self.old) b x }
+        ensures lender { buffers self.new ≡ buffers self.old };
+
+    ghost sound: { (s : Self) → IsShelf (meaning s) };
+}
