@@ -1,2 +1,3 @@
+mod Lawful
 pub mod Meanings
 pub mod Places

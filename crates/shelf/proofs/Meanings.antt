@@ -1,8 +1,7 @@
 -- Lemmas on what shelves mean: what is refused, and what a refusal leaves. Assumes nothing.
-use Rattle.std.proofs.Common.{◌≡◌, ◌≢◌, ℕ, zero, suc, ◌+◌, ◌-◌, ◌≤◌, ◌<◌, Bool, true, false, not, ◌&&◌, nat_lt, nat_le, List, [], ◌∷◌, ◌++◌, length, replicate, slice_get, slice_set, Option, Some, None, is_some, refl, sym, ap, ◌∙◌, inl, inr, ◌⊎◌, ⊎_elim, true≢false, arith, tests, rules}
+use Rattle.std.proofs.Common.{◌≡◌, ℕ, zero, suc, ◌≤◌, ◌<◌, Bool, true, false, List, [], ◌∷◌, length, replicate, slice_get, slice_set, Option, Some, None, is_some, refl, sym, ap, ◌∙◌, true≢false, arith, tests}
 use Rattle.std.proofs.lemmas.Option.{slice_get_past}
-use Rattle.std.proofs.lemmas.Grind.{common_steps}
-use Rattle.shelf.specs.Meaning.{AllHave, IsShelf, Meaning, box_count, column, change, has_row, in_place, in_box, with_box, is_box, is_out, is_standing, symbol_at, symbol_of, unless_standing, nothing, with_out, with_row, with_standing, with_symbol}
+use Rattle.shelf.specs.Meaning.{AllHave, IsShelf, Meaning, box_count, column, change, has_row, in_place, is_box, is_out, is_standing, symbol_at, symbol_of, unless_standing, nothing, with_out, with_row, with_standing, with_symbol}
 use Rattle.shelf.proofs.Places.{with_box-same, with_box_past}
 
 -- every column has the shelf's rows
@@ -94,15 +93,15 @@ module _ {T : Type 0} (m : Meaning T) where
 
   -- a row that is there is fetched
   pub symbol_at_there : IsShelf m → (b a : ℕ) → has_row m b a ≡ true → (x : T) × (symbol_at m b a ≡ Some x)
-  symbol_at_there s b a e =
-      let t : is_standing m b ≡ true = grind (arith, tests) in
-      let c = standing_column m b t in
-      let l = column_length m b c.0 s c.1 in
-      let k : a < length c.0 = grind (arith, tests) in
-      let g = some_at c.0 a k in
-      (g.0, ap (λ o. symbol_of o a) c.1 ∙ g.1)
+  symbol_at_there s b a e = by (standing_column m b (grind (arith, tests)))
     where
       some_at : (xs : List T) (a : ℕ) → a < length xs → (x : T) × (slice_get xs a ≡ Some x)
       some_at [] a h = absurd (omega arith)
       some_at (x ∷ xs) zero h = (x, refl)
       some_at (x ∷ xs) (suc a) h = some_at xs a (omega arith)
+
+      by : ((xs : List T) × (column m b ≡ Some xs)) → (x : T) × (symbol_at m b a ≡ Some x)
+      by c =
+          let l = column_length m b c.0 s c.1 in
+          let g = some_at c.0 a (grind (arith, tests)) in
+          (g.0, ap (λ o. symbol_of o a) c.1 ∙ g.1)

@@ -1,5 +1,5 @@
 -- What a shelf means: how many rows its boxes have and, for each box from the first on, its column, or that it is out. Assumes nothing.
-use Rattle.std.specs.Prelude.{◌≡◌, ℕ, zero, suc, ◌≤◌, Bool, true, false, not, ◌&&◌, nat_le, nat_lt, List, [], ◌∷◌, length, replicate, slice_get, slice_set, Option, Some, None, is_some}
+use Rattle.std.specs.Prelude.{◌≡◌, ℕ, zero, suc, ◌≤◌, Bool, not, ◌&&◌, nat_le, nat_lt, List, [], ◌∷◌, length, replicate, slice_get, slice_set, Option, Some, None, is_some}
 
 pub record Meaning (T : Type 0) : Type 0 where
   pub rows : ℕ

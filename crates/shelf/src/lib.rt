@@ -2,7 +2,12 @@
 #![tactic(auto)]
 
 ghost use Rattle.std.specs.Prelude.{◌≡◌, ℕ, List};
+ghost use Rattle.shelf.specs.Laws.{ShelfLaws};
 ghost use Rattle.shelf.specs.Meaning.{IsShelf, Meaning, box_count, has_row, is_out, is_standing, symbol_at, with_out, with_standing, with_symbol};
+
+mod calls;
+
+pub use calls::{Answer, Call, perform, perform_on_both};
 
 // How many boxes a shelf has, and how many rows each box.
 #[derive(Clone, Copy)]
@@ -60,3 +65,9 @@ pub trait Shelf {
 
     ghost sound: { (s : Self) → IsShelf (meaning s) };
 }
+
+// The laws of shelves.
+pub fn shelves_stand<S: Shelf>()
+    ensures each { (s : S) → IsShelf (S.meaning s) }
+    ensures laws { ShelfLaws S.Symbol }
+{}
