@@ -2,7 +2,7 @@
 use Rattle.std.proofs.Common.{◌≡◌, ℕ, zero, suc, ◌+◌, ◌-◌, ◌*◌, ◌≤◌, ◌<◌, Bool, true, false, List, [], ◌∷◌, ◌++◌, length, take, drop, replicate, slice_index_or, slice_set, Option, Some, refl, sym, ap, ◌∙◌, append_assoc, arith, length-append, length-drop, length-take}
 use Rattle.std.proofs.Math.Nat.{suc-mul, zero-mul}
 use Rattle.std.proofs.Math.Seq.{take-add, take-set-lt}
-use Rattle.std.proofs.lemmas.List.{append_cancel_left, drop-drop, drop-set-add, drop-set-lt, drop_at, drop_more, length-replicate, length-take-le, replicate_more, set-append_right, set-get_or, take-append-drop, take-set-le, take-take, take_at}
+use Rattle.std.proofs.lemmas.List.{append_cancel_left, drop-drop, drop-set-add, drop-set-lt, drop_at, drop_more, length-replicate, length-take-le, replicate_more, set-append_right, set-get_or, take-set-le, take-take, take_at}
 use Rattle.shelf.specs.Meaning.{in_place, nothing, unless_standing, with_place, with_row}
 use Rattle.frame.specs.Layouts.{box_of, cut, filled}
 
@@ -79,9 +79,6 @@ pub length-filled : {T : Type 0} (xs : List T) (start end : ℕ) (x : T) → sta
 length-filled xs start end x h k = simp (length-append, length-replicate, length-take, length-drop) (omega arith)
 
 -- a row is filled place by place
-pub filled_none : {T : Type 0} (xs : List T) (start : ℕ) (x : T) → xs ≡ filled xs start start x
-filled_none xs start x = let e : start - start ≡ 0 = omega arith in rw e (sym (take-append-drop start xs))
-
 pub filled_more : {T : Type 0} (xs : List T) (start i : ℕ) (x : T) → start ≤ i → i < length xs → slice_set (filled xs start i x) i x ≡ filled xs start (i + 1) x
 filled_more xs start i x h k =
     let front : length (take start xs) ≡ start = length-take-le start xs (omega arith) in

@@ -1,16 +1,14 @@
 -- What the calls of a frame make of a row of symbols that it divides. Assumes nothing.
-use Rattle.std.proofs.Common.{◌≡◌, ℕ, zero, suc, ◌+◌, ◌-◌, ◌*◌, ◌≤◌, ◌<◌, Bool, true, false, not, ◌&&◌, nat_le, nat_lt, if◌then◌else◌, List, [], ◌∷◌, length, take, drop, replicate, slice_get, slice_index_or, slice_set, Some, None, is_some, refl, sym, ap, ◌∙◌, arith, suc-add, inl, inr, length-set, length-take}
+use Rattle.std.proofs.Common.{◌≡◌, ℕ, zero, suc, ◌+◌, ◌-◌, ◌*◌, ◌≤◌, ◌<◌, Bool, true, false, not, ◌&&◌, nat_le, nat_lt, if◌then◌else◌, List, [], ◌∷◌, length, take, drop, slice_get, slice_index_or, slice_set, Some, None, is_some, refl, sym, ap, ◌∙◌, arith, suc-add, inl, inr, length-set, length-take}
 use Rattle.std.proofs.Math.Nat.{mul-le-mul_right, suc-mul}
 use Rattle.std.proofs.Math.Seq.{take-set-lt}
-use Rattle.std.proofs.lemmas.Bool.{and_parts, cases_Bool, cases_lt, not-true, cond-true, cond-false, leb-true, le-leb, lt-leb, ltb-true}
-use Rattle.std.proofs.lemmas.Bool.Decides.{nat_tests}
+use Rattle.std.proofs.lemmas.Bool.{and_parts, cases_lt, not-true, leb-true, le-leb, lt-leb, ltb-true}
 use Rattle.std.proofs.lemmas.List.{get_or-take, get_or_past, length-take-le}
 use Rattle.std.proofs.lemmas.Option.{cond_some, none-some, same_Some}
+use Rattle.std.specs.declared.ops.Range.{Range}
 use Rattle.shelf.specs.Meaning.{box_count, column, has_row, is_out, is_standing, symbol_at, symbol_of, with_out, with_standing, with_symbol}
-use Rattle.shelf.proofs.Meanings.{with_out_refused, with_standing_refused}
-use Rattle.frame.specs.Layouts.{Keeps, Layout, all_out, box_of, boxes_in, cut, end_of, filled, is_marked, is_numbered, is_allowed, is_out_in, laid, new_layout, place_in, room_in, stands_in, start_of, with_mark}
-use Rattle.frame.specs.Frames.{boxes_fit, framed, layout, length-cut}
-use Rattle.frame.specs.declared.Frame.{Frame}
+use Rattle.frame.specs.Layouts.{Keeps, Layout, box_of, boxes_in, end_of, filled, is_marked, is_numbered, is_out_in, laid, place_in, room_in, stands_in, start_of, with_mark}
+use Rattle.frame.specs.Frames.{boxes_fit, length-cut}
 use Rattle.frame.proofs.Cuts.{cut_in, cut_out, cut_set, in_place-cut, length-filled}
 
 slice_get-take : {T : Type 0} (n : ℕ) (xs : List T) (i : ℕ) → i < n → slice_get (take n xs) i ≡ slice_get xs i
@@ -128,17 +126,17 @@ module _ {T : Type 0} (y : Layout) (xs : List T) where
       rw (p.place, k, length-set) (ap (λ cs. record { rows = y.rows; boxes = cs }) (cut_set y.rows j (take n y.marks) xs inside a x p.below))
 
   -- a box that is out, and where its column will lie
-  record Room (b start end : ℕ) : Type 0 where
-    out : is_out_in y (length xs) b ≡ true
+  pub record Room (b : ℕ) (places : Range ℕ) : Type 0 where
+    pub out : is_out_in y (length xs) b ≡ true
     some : 1 ≤ b
     most : b ≤ boxes_in y (length xs)
     mark : slice_index_or y.marks (b - 1) false ≡ false
-    first : start ≡ start_of y b
-    last : end ≡ end_of y b
+    first : places.start ≡ start_of y b
+    last : places.end ≡ end_of y b
 
-  room : (b start end : ℕ) → room_in y (length xs) b ≡ Some (start, end) → Room b start end
-  room b start end e =
-      let p = cond_some (is_out_in y (length xs) b) (start_of y b, end_of y b) (start, end) e in
+  pub room : (b : ℕ) (places : Range ℕ) → room_in y (length xs) b ≡ Some places → Room b places
+  room b places e =
+      let p = cond_some (is_out_in y (length xs) b) (record { start = start_of y b; end = end_of y b }) places e in
       let q = and_parts (is_numbered y (length xs) b) _ p.0 in
       let r = and_parts (nat_le 1 b) _ q.0 in
       record {
@@ -146,22 +144,23 @@ module _ {T : Type 0} (y : Layout) (xs : List T) where
         some = leb-true 1 b r.0;
         most = leb-true b _ r.1;
         mark = not-true _ q.1;
-        first = sym (ap (λ t. t.0) p.1);
-        last = sym (ap (λ t. t.1) p.1);
+        first = sym (ap (λ t. t.start) p.1);
+        last = sym (ap (λ t. t.end) p.1);
       }
 
-  pub room_within : (b start end : ℕ) → room_in y (length xs) b ≡ Some (start, end) → (start ≤ end) × (end ≤ length xs)
-  room_within b start end e =
-      let r = room b start end e in
+  pub room_within : (b : ℕ) (places : Range ℕ) → room_in y (length xs) b ≡ Some places → (places.start ≤ places.end) × (places.end ≤ length xs)
+  room_within b places e =
+      let r = room b places e in
       let h = box_within b r.some r.most in
       let s = r.first in
       let t = r.last in
       (omega arith, omega arith)
 
-  pub with_standing-laid : y.boxes ≤ length y.marks → (b start end : ℕ) (x : T) → room_in y (length xs) b ≡ Some (start, end) → laid (with_mark y b true) (filled xs start end x) ≡ with_standing (laid y xs) b x
-  with_standing-laid marked zero start end x e = let r = room zero start end e in absurd (omega (arith, r.some))
-  with_standing-laid marked (suc j) start end x e =
-      let r = room (suc j) start end e in
+  pub with_standing-laid : y.boxes ≤ length y.marks → (b : ℕ) (places : Range ℕ) (x : T) → room_in y (length xs) b ≡ Some places
+      → laid (with_mark y b true) (filled xs places.start places.end x) ≡ with_standing (laid y xs) b x
+  with_standing-laid marked zero places x e = let r = room zero places e in absurd (omega (arith, r.some))
+  with_standing-laid marked (suc j) places x e =
+      let r = room (suc j) places e in
       let k : suc j - 1 ≡ j = omega arith in
       let n = boxes_in y (length xs) in
       let fits = boxes_fit y (length xs) in
@@ -172,7 +171,7 @@ module _ {T : Type 0} (y : Layout) (xs : List T) where
       rw (r.first, r.last, k, long, take-set-lt n y.marks j true (omega (arith, r.most)))
       (ap (λ cs. record { rows = y.rows; boxes = cs }) (cut_in y.rows j (take n y.marks) xs inside x (rw k at h) mark))
 
-  with_out-standing : y.boxes ≤ length y.marks → (b : ℕ) → stands_in y (length xs) b ≡ true → laid (with_mark y b false) xs ≡ with_out (laid y xs) b
+  pub with_out-standing : y.boxes ≤ length y.marks → (b : ℕ) → stands_in y (length xs) b ≡ true → laid (with_mark y b false) xs ≡ with_out (laid y xs) b
   with_out-standing marked zero e = let s = standing zero e in absurd (omega (arith, s.some))
   with_out-standing marked (suc j) e =
       let s = standing (suc j) e in
@@ -195,56 +194,3 @@ module _ {T : Type 0} (y : Layout) (xs : List T) where
       column_of : (mark : Bool) (zs c : List T) → box_of mark zs ≡ Some c → zs ≡ c
       column_of true zs c e = same_Some zs c e
       column_of false zs c e = absurd (none-some c e)
-
-cut-all_out : {T : Type 0} (l n k : ℕ) (xs : List T) → n ≤ k → cut l (take n (replicate k false)) xs ≡ replicate n None
-cut-all_out l zero k xs h = refl
-cut-all_out l (suc n) zero xs h = absurd (omega arith)
-cut-all_out l (suc n) (suc k) xs h = ap (λ cs. None ∷ cs) (cut-all_out l n k (drop l xs) (omega arith))
-
--- the same of a frame, as its callers meet it: f is the frame before the call, and g after it
-module _ {T : Type 0} (f : Frame) (xs : List T) where
-  pub absent : (b a : ℕ) → place_in (layout f) (length xs) b a ≡ None → has_row (framed f xs) b a ≡ false
-  absent b a e = has_row-laid (layout f) xs b a ∙ ap is_some e
-
-  pub present : (b a i : ℕ) → place_in (layout f) (length xs) b a ≡ Some i → has_row (framed f xs) b a ≡ true
-  present b a i e = has_row-laid (layout f) xs b a ∙ ap is_some e
-
-  pub withdrawn : (g : Frame) (b : ℕ) → layout g ≡ (if stands_in (layout f) (length xs) b then with_mark (layout f) b false else layout f) → framed g xs ≡ with_out (framed f xs) b
-  withdrawn g b e = elim (cases_Bool (stands_in (layout f) (length xs) b)) [
-    | inl h ↦ ap (λ y. laid y xs) (e ∙ cond-true _ _ _ h) ∙ with_out-standing (layout f) xs f.marked b h
-    | inr h ↦ ap (λ y. laid y xs) (e ∙ cond-false _ _ _ h) ∙ sym (with_out_refused (framed f xs) b (is_standing-laid (layout f) xs b ∙ h))
-  ]
-
-  pub inserted : (g : Frame) (b start end : ℕ) (x : T) → room_in (layout f) (length xs) b ≡ Some (start, end)
-      → layout g ≡ (if is_out_in (layout f) (length xs) b then with_mark (layout f) b true else layout f)
-      → (is_out (framed f xs) b ≡ true) × (framed g (filled xs start end x) ≡ with_standing (framed f xs) b x)
-  inserted g b start end x r e =
-      let out = (room (layout f) xs b start end r).out in (
-        is_out-laid (layout f) xs f.marked b ∙ out,
-        ap (λ y. laid y (filled xs start end x)) (e ∙ cond-true _ _ _ out) ∙ with_standing-laid (layout f) xs f.marked b start end x r,
-      )
-
-  pub not_inserted : (g : Frame) (b : ℕ) (x : T) → room_in (layout f) (length xs) b ≡ None
-      → layout g ≡ (if is_out_in (layout f) (length xs) b then with_mark (layout f) b true else layout f)
-      → (is_out (framed f xs) b ≡ false) × (framed g xs ≡ with_standing (framed f xs) b x)
-  not_inserted g b x r e =
-      let h : is_out_in (layout f) (length xs) b ≡ false = no_room (is_out_in (layout f) (length xs) b) _ r in
-      let out = is_out-laid (layout f) xs f.marked b ∙ h in
-      (out, ap (λ y. laid y xs) (e ∙ cond-false _ _ _ h) ∙ sym (with_standing_refused (framed f xs) b x out))
-    where
-      no_room : (t : Bool) (p : ℕ × ℕ) → (if t then Some p else None) ≡ None → t ≡ false
-      no_room true p h = absurd (none-some p (sym h))
-      no_room false p h = refl
-
-  pub begun : (n l : ℕ) → layout f ≡ new_layout n l (length xs) → framed f xs ≡ all_out n l (length xs)
-  begun n l e = ap (λ y. laid y xs) e ∙ elim (cases_Bool (is_allowed n l (length xs))) [
-    | inl h ↦
-        let few : n ≤ 32 = grind (arith, nat_tests) in
-        let fits : (if nat_le (n * l) (length xs) then n else 0) ≡ n = grind (arith, nat_tests) in
-        ap (λ y. laid y xs) (cond-true _ _ _ h) ∙ rw (fits, cut-all_out l n 32 xs few) refl ∙ sym (cond-true _ _ _ h)
-    | inr h ↦
-        let y : Layout = record { marks = replicate 32 false; boxes = 0; rows = 0 } in
-        let fits = boxes_fit y (length xs) in
-        let none : boxes_in y (length xs) ≡ 0 = omega arith in
-        ap (λ y. laid y xs) (cond-false _ _ _ h) ∙ rw none refl ∙ sym (cond-false _ _ _ h)
-  ]

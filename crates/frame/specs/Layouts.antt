@@ -1,5 +1,6 @@
 -- How the boxes of a shelf lie in a row of symbols: one after another. Assumes nothing.
 use Rattle.std.specs.Prelude.{◌≡◌, ℕ, ◌+◌, ◌-◌, ◌*◌, Bool, true, false, not, ◌&&◌, nat_le, nat_lt, if◌then◌else◌, List, [], ◌∷◌, ◌++◌, length, take, drop, replicate, slice_index_or, slice_range, slice_set, Option, Some, None}
+use Rattle.std.specs.declared.ops.Range.{Range}
 use Rattle.shelf.specs.Meaning.{Meaning, column}
 
 -- so many boxes, the first of the marked ones, with so many rows each
@@ -52,8 +53,8 @@ abbrev pub place_in : Layout → ℕ → ℕ → ℕ → Option ℕ
 place_in y len b a = if stands_in y len b && nat_lt a y.rows then Some (start_of y b + a) else None
 
 -- where the column of box b will lie, if the box is out
-abbrev pub room_in : Layout → ℕ → ℕ → Option (ℕ × ℕ)
-room_in y len b = if is_out_in y len b then Some (start_of y b, end_of y b) else None
+abbrev pub room_in : Layout → ℕ → ℕ → Option (Range ℕ)
+room_in y len b = if is_out_in y len b then Some (record { start = start_of y b; end = end_of y b }) else None
 
 -- the layout with another mark on box b
 abbrev pub with_mark : Layout → ℕ → Bool → Layout

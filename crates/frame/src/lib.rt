@@ -5,6 +5,7 @@
 ghost use Rattle.std.specs.Prelude.{◌≡◌, ℕ, ◌≤◌, false, true, if◌then◌else◌, length};
 
 use shelf::Sizes;
+use std::ops::Range;
 
 #[derive(Drop)]
 pub struct Frame {
@@ -90,9 +91,9 @@ impl Frame {
         stands
     }
 
-    // Marks box b as standing, and says where its column begins and ends; absent,
-    // with nothing changed, unless it is a box that is out.
-    pub fn insert(&mut self, len: usize, b: usize) -> Option<(usize, usize)>
+    // Marks box b as standing, and says where its column lies; absent, with
+    // nothing changed, unless it is a box that is out.
+    pub fn insert(&mut self, len: usize, b: usize) -> Option<Range<usize>>
         ensures answer { result ≡ room_in (layout self.old) len b }
         ensures after { layout self.new ≡ (if is_out_in (layout self.old) len b then with_mark (layout self.old) b true else layout self.old) }
     {
@@ -101,6 +102,6 @@ impl Frame {
         }
         self.marks[b - 1] = true;
         let start = (b - 1) * self.rows;
-        Some((start, start + self.rows))
+        Some(start..start + self.rows)
     }
 }
