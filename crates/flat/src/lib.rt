@@ -62,7 +62,12 @@ impl<'a, T: Copy> Flat<'a, T> {
         read(self.buffer, i)
     }
 
-    // Lets the shelf go; the column of each box that stands is in the buffer.
+    // Lets the shelf go: the column of each box that stands is in the buffer.
+    pub fn close(self)
+        ensures { Keeps (⟦<Flat<'a, T> as Shelf>⟧.meaning self.entry) self.exit.0.now }
+    {}
+
+    // Lets the shelf go, and gives the buffer to whoever goes on with it.
     pub fn into_buffer(self) -> &'a mut [T]
         ensures lender { ⟦<Flat<'a, T> as Shelf>⟧.buffers self.entry ≡ result.ghost_name ∷ [] }
         ensures keeps { Keeps (⟦<Flat<'a, T> as Shelf>⟧.meaning self.entry) result.now }
