@@ -1,0 +1,196 @@
+-- What the calls of a frame make of a row of symbols that it divides. Assumes nothing.
+use Rattle.std.proofs.Common.{◌≡◌, ℕ, zero, suc, ◌+◌, ◌-◌, ◌*◌, ◌≤◌, ◌<◌, Bool, true, false, not, ◌&&◌, nat_le, nat_lt, if◌then◌else◌, List, [], ◌∷◌, length, take, drop, slice_get, slice_index_or, slice_set, Some, None, is_some, refl, sym, ap, ◌∙◌, arith, suc-add, inl, inr, length-set, length-take}
+use Rattle.std.proofs.Math.Nat.{mul-le-mul_right, suc-mul}
+use Rattle.std.proofs.Math.Seq.{take-set-lt}
+use Rattle.std.proofs.lemmas.Bool.{and_parts, cases_lt, not-true, leb-true, le-leb, lt-leb, ltb-true}
+use Rattle.std.proofs.lemmas.List.{get_or-take, get_or_past, length-take-le}
+use Rattle.std.proofs.lemmas.Option.{cond_some, none-some, same_Some}
+use Rattle.std.specs.declared.ops.Range.{Range}
+use Rattle.shelf.specs.Meaning.{box_count, column, has_row, is_out, is_standing, symbol_at, symbol_of, with_out, with_standing, with_symbol}
+use Rattle.frame.specs.Layouts.{Keeps, Layout, box_of, boxes_in, end_of, filled, is_marked, is_numbered, is_out_in, laid, place_in, room_in, stands_in, start_of, with_mark}
+use Rattle.frame.specs.Frames.{boxes_fit, length-cut}
+use Rattle.frame.proofs.Cuts.{cut_in, cut_out, cut_set, in_place-cut, length-filled}
+
+slice_get-take : {T : Type 0} (n : ℕ) (xs : List T) (i : ℕ) → i < n → slice_get (take n xs) i ≡ slice_get xs i
+slice_get-take zero xs i h = absurd (omega arith)
+slice_get-take (suc n) [] i h = refl
+slice_get-take (suc n) (x ∷ xs) zero h = refl
+slice_get-take (suc n) (x ∷ xs) (suc i) h = slice_get-take n xs i (omega arith)
+
+slice_get-drop : {T : Type 0} (n : ℕ) (xs : List T) (i : ℕ) → slice_get (drop n xs) i ≡ slice_get xs (n + i)
+slice_get-drop zero xs i = ap (slice_get xs) (omega arith)
+slice_get-drop (suc n) [] i = refl
+slice_get-drop (suc n) (x ∷ xs) i = slice_get-drop n xs i ∙ rw suc-add refl
+
+is_some-box_of : {T : Type 0} (mark : Bool) (xs : List T) → is_some (box_of mark xs) ≡ mark
+is_some-box_of true xs = refl
+is_some-box_of false xs = refl
+
+-- the marks of the first n boxes
+mark_of_first : (n i : ℕ) (marks : List Bool) → slice_index_or (take n marks) i false ≡ (nat_le (suc i) n && slice_index_or marks i false)
+mark_of_first n i marks = elim (cases_lt i n) [
+  | inl h ↦ get_or-take n marks i false h ∙ sym (ap (λ t. t && slice_index_or marks i false) (le-leb (suc i) n h))
+  | inr h ↦ get_or_past (take n marks) i false (simp length-take (omega arith)) ∙ sym (ap (λ t. t && slice_index_or marks i false) (lt-leb (suc i) n (omega arith)))
+]
+
+module _ {T : Type 0} (y : Layout) (xs : List T) where
+  column-laid : (i : ℕ) → column (laid y xs) (suc i) ≡ box_of (nat_le (suc i) (boxes_in y (length xs)) && slice_index_or y.marks i false) (take y.rows (drop (i * y.rows) xs))
+  column-laid i =
+      let n = boxes_in y (length xs) in
+      in_place-cut y.rows i (take n y.marks) xs ∙ ap (λ t. box_of t (take y.rows (drop (i * y.rows) xs))) (mark_of_first n i y.marks)
+
+  pub is_standing-laid : (b : ℕ) → is_standing (laid y xs) b ≡ stands_in y (length xs) b
+  is_standing-laid zero = refl
+  is_standing-laid (suc i) =
+      let e : suc i - 1 ≡ i = omega arith in
+      ap is_some (column-laid i) ∙ is_some-box_of _ _ ∙ rw (e, le-leb 1 (suc i) (omega arith)) refl
+
+  pub box_count-laid : y.boxes ≤ length y.marks → box_count (laid y xs) ≡ boxes_in y (length xs)
+  box_count-laid marked = let fits = boxes_fit y (length xs) in length-cut y.rows (take (boxes_in y (length xs)) y.marks) xs ∙ length-take-le _ _ (omega arith)
+
+  pub is_out-laid : y.boxes ≤ length y.marks → (b : ℕ) → is_out (laid y xs) b ≡ is_out_in y (length xs) b
+  is_out-laid marked b = rw (is_standing-laid b, box_count-laid marked) (without (is_numbered y (length xs) b) (is_marked y b))
+    where
+      without : (s t : Bool) → (s && not (s && t)) ≡ (s && not t)
+      without true t = refl
+      without false t = refl
+
+  pub has_row-laid : (b a : ℕ) → has_row (laid y xs) b a ≡ is_some (place_in y (length xs) b a)
+  has_row-laid b a = rw (is_standing-laid b) (some_if (stands_in y (length xs) b && nat_lt a y.rows) (start_of y b + a))
+    where
+      some_if : (t : Bool) (n : ℕ) → t ≡ is_some (if t then Some n else None)
+      some_if true n = refl
+      some_if false n = refl
+
+  -- a box that stands
+  record Standing (b : ℕ) : Type 0 where
+    some : 1 ≤ b
+    most : b ≤ boxes_in y (length xs)
+    mark : slice_index_or y.marks (b - 1) false ≡ true
+
+  standing : (b : ℕ) → stands_in y (length xs) b ≡ true → Standing b
+  standing b e =
+      let p = and_parts (is_numbered y (length xs) b) _ e in
+      let q = and_parts (nat_le 1 b) _ p.0 in
+      record { some = leb-true 1 b q.0; most = leb-true b _ q.1; mark = p.1 }
+
+  column_standing : (i : ℕ) → Standing (suc i) → column (laid y xs) (suc i) ≡ Some (take y.rows (drop (i * y.rows) xs))
+  column_standing i s =
+      let k : suc i - 1 ≡ i = omega arith in
+      let m : slice_index_or y.marks i false ≡ true = rw k at s.mark in
+      column-laid i ∙ rw (m, le-leb (suc i) (boxes_in y (length xs)) s.most) refl
+
+  -- a row of a box that stands, and where it lies
+  record Placed (b a i : ℕ) : Type 0 where
+    stands : Standing b
+    below : a < y.rows
+    place : i ≡ start_of y b + a
+
+  placed : (b a i : ℕ) → place_in y (length xs) b a ≡ Some i → Placed b a i
+  placed b a i e =
+      let p = cond_some (stands_in y (length xs) b && nat_lt a y.rows) (start_of y b + a) i e in
+      let q = and_parts (stands_in y (length xs) b) _ p.0 in
+      record { stands = standing b q.0; below = ltb-true a y.rows q.1; place = sym p.1 }
+
+  -- a box has its room in the row
+  box_within : (b : ℕ) → 1 ≤ b → b ≤ boxes_in y (length xs) → end_of y b ≤ length xs
+  box_within b some most =
+      let fits = boxes_fit y (length xs) in
+      let k : suc (b - 1) ≤ boxes_in y (length xs) = omega arith in
+      let room = mul-le-mul_right y.rows k in
+      let s = suc-mul (b - 1) y.rows in
+      omega arith
+
+  pub place_within : (b a i : ℕ) → place_in y (length xs) b a ≡ Some i → i < length xs
+  place_within b a i e =
+      let p = placed b a i e in
+      let h = box_within b p.stands.some p.stands.most in
+      omega arith
+
+  pub symbol_at-laid : (b a i : ℕ) → place_in y (length xs) b a ≡ Some i → symbol_at (laid y xs) b a ≡ slice_get xs i
+  symbol_at-laid zero a i e = let p = placed zero a i e in absurd (omega (arith, p.stands.some))
+  symbol_at-laid (suc j) a i e =
+      let p = placed (suc j) a i e in
+      let k : suc j - 1 ≡ j = omega arith in
+      ap (λ o. symbol_of o a) (column_standing j p.stands)
+      ∙ slice_get-take y.rows (drop (j * y.rows) xs) a p.below ∙ slice_get-drop (j * y.rows) xs a ∙ ap (slice_get xs) (sym (rw k at p.place))
+
+  pub with_symbol-laid : y.boxes ≤ length y.marks → (b a i : ℕ) (x : T) → place_in y (length xs) b a ≡ Some i → laid y (slice_set xs i x) ≡ with_symbol (laid y xs) b a x
+  with_symbol-laid marked zero a i x e = let p = placed zero a i e in absurd (omega (arith, p.stands.some))
+  with_symbol-laid marked (suc j) a i x e =
+      let p = placed (suc j) a i e in
+      let k : suc j - 1 ≡ j = omega arith in
+      let n = boxes_in y (length xs) in
+      let fits = boxes_fit y (length xs) in
+      let inside : j < length (take n y.marks) = rw (length-take-le n y.marks (omega arith)) (omega (arith, p.stands.most)) in
+      rw (p.place, k, length-set) (ap (λ cs. record { rows = y.rows; boxes = cs }) (cut_set y.rows j (take n y.marks) xs inside a x p.below))
+
+  -- a box that is out, and where its column will lie
+  pub record Room (b : ℕ) (places : Range ℕ) : Type 0 where
+    pub out : is_out_in y (length xs) b ≡ true
+    some : 1 ≤ b
+    most : b ≤ boxes_in y (length xs)
+    mark : slice_index_or y.marks (b - 1) false ≡ false
+    first : places.start ≡ start_of y b
+    last : places.end ≡ end_of y b
+
+  pub room : (b : ℕ) (places : Range ℕ) → room_in y (length xs) b ≡ Some places → Room b places
+  room b places e =
+      let p = cond_some (is_out_in y (length xs) b) (record { start = start_of y b; end = end_of y b }) places e in
+      let q = and_parts (is_numbered y (length xs) b) _ p.0 in
+      let r = and_parts (nat_le 1 b) _ q.0 in
+      record {
+        out = p.0;
+        some = leb-true 1 b r.0;
+        most = leb-true b _ r.1;
+        mark = not-true _ q.1;
+        first = sym (ap (λ t. t.start) p.1);
+        last = sym (ap (λ t. t.end) p.1);
+      }
+
+  pub room_within : (b : ℕ) (places : Range ℕ) → room_in y (length xs) b ≡ Some places → (places.start ≤ places.end) × (places.end ≤ length xs)
+  room_within b places e =
+      let r = room b places e in
+      let h = box_within b r.some r.most in
+      let s = r.first in
+      let t = r.last in
+      (omega arith, omega arith)
+
+  pub with_standing-laid : y.boxes ≤ length y.marks → (b : ℕ) (places : Range ℕ) (x : T) → room_in y (length xs) b ≡ Some places
+      → laid (with_mark y b true) (filled xs places.start places.end x) ≡ with_standing (laid y xs) b x
+  with_standing-laid marked zero places x e = let r = room zero places e in absurd (omega (arith, r.some))
+  with_standing-laid marked (suc j) places x e =
+      let r = room (suc j) places e in
+      let k : suc j - 1 ≡ j = omega arith in
+      let n = boxes_in y (length xs) in
+      let fits = boxes_fit y (length xs) in
+      let h = box_within (suc j) r.some r.most in
+      let long : length (filled xs (j * y.rows) (j * y.rows + y.rows) x) ≡ length xs = length-filled xs (j * y.rows) (j * y.rows + y.rows) x (omega arith) (rw k at h) in
+      let inside : j < length (take n y.marks) = rw (length-take-le n y.marks (omega arith)) (omega (arith, r.most)) in
+      let mark : slice_index_or (take n y.marks) j false ≡ false = get_or-take n y.marks j false (omega (arith, r.most)) ∙ (rw k at r.mark) in
+      rw (r.first, r.last, k, long, take-set-lt n y.marks j true (omega (arith, r.most)))
+      (ap (λ cs. record { rows = y.rows; boxes = cs }) (cut_in y.rows j (take n y.marks) xs inside x (rw k at h) mark))
+
+  pub with_out-standing : y.boxes ≤ length y.marks → (b : ℕ) → stands_in y (length xs) b ≡ true → laid (with_mark y b false) xs ≡ with_out (laid y xs) b
+  with_out-standing marked zero e = let s = standing zero e in absurd (omega (arith, s.some))
+  with_out-standing marked (suc j) e =
+      let s = standing (suc j) e in
+      let k : suc j - 1 ≡ j = omega arith in
+      let n = boxes_in y (length xs) in
+      let fits = boxes_fit y (length xs) in
+      let inside : j < length (take n y.marks) = rw (length-take-le n y.marks (omega arith)) (omega (arith, s.most)) in
+      rw (k, take-set-lt n y.marks j false (omega (arith, s.most)))
+      (ap (λ cs. record { rows = y.rows; boxes = cs }) (cut_out y.rows j (take n y.marks) xs inside))
+
+  -- each column that stands lies in its place
+  pub laid_keeps : Keeps (laid y xs) xs
+  laid_keeps zero c e = absurd (none-some c e)
+  laid_keeps (suc j) c e =
+      let k : suc j - 1 ≡ j = omega arith in
+      let s = suc-mul j y.rows in
+      let size : suc j * y.rows - j * y.rows ≡ y.rows = omega arith in
+      rw (k, size) (column_of _ (take y.rows (drop (j * y.rows) xs)) c (sym (column-laid j) ∙ e))
+    where
+      column_of : (mark : Bool) (zs c : List T) → box_of mark zs ≡ Some c → zs ≡ c
+      column_of true zs c e = same_Some zs c e
+      column_of false zs c e = absurd (none-some c e)

@@ -1,0 +1,81 @@
+-- How the boxes of a shelf lie in a row of symbols: one after another. Assumes nothing.
+use Rattle.std.specs.Prelude.{◌≡◌, ℕ, ◌+◌, ◌-◌, ◌*◌, Bool, true, false, not, ◌&&◌, nat_le, nat_lt, if◌then◌else◌, List, [], ◌∷◌, ◌++◌, length, take, drop, replicate, slice_index_or, slice_range, slice_set, Option, Some, None}
+use Rattle.std.specs.declared.ops.Range.{Range}
+use Rattle.shelf.specs.Meaning.{Meaning, column}
+
+-- so many boxes, the first of the marked ones, with so many rows each
+pub record Layout : Type 0 where
+  pub marks : List Bool
+  pub boxes : ℕ
+  pub rows : ℕ
+
+-- a box by its mark: it stands with its column, or is out
+abbrev pub box_of : {T : Type 0} → Bool → List T → Option (List T)
+box_of true xs = Some xs
+box_of false xs = None
+
+-- the boxes with these marks, l symbols each, from the start of xs on
+abbrev pub cut : {T : Type 0} → ℕ → List Bool → List T → List (Option (List T))
+cut l [] xs = []
+cut l (mark ∷ marks) xs = box_of mark (take l xs) ∷ cut l marks (drop l xs)
+
+-- how many boxes lie in a row of len symbols: none, if it is too short for all
+abbrev pub boxes_in : Layout → ℕ → ℕ
+boxes_in y len = if nat_le (y.boxes * y.rows) len then y.boxes else 0
+
+-- the shelf in the row xs
+abbrev pub laid : {T : Type 0} → Layout → List T → Meaning T
+laid y xs = record { rows = y.rows; boxes = cut y.rows (take (boxes_in y (length xs)) y.marks) xs }
+
+-- b is the number of a box
+abbrev pub is_numbered : Layout → ℕ → ℕ → Bool
+is_numbered y len b = nat_le 1 b && nat_le b (boxes_in y len)
+
+-- box b is marked as standing
+abbrev pub is_marked : Layout → ℕ → Bool
+is_marked y b = slice_index_or y.marks (b - 1) false
+
+abbrev pub stands_in : Layout → ℕ → ℕ → Bool
+stands_in y len b = is_numbered y len b && is_marked y b
+
+abbrev pub is_out_in : Layout → ℕ → ℕ → Bool
+is_out_in y len b = is_numbered y len b && not (is_marked y b)
+
+-- where the column of box b begins, and where it ends
+abbrev pub start_of : Layout → ℕ → ℕ
+start_of y b = (b - 1) * y.rows
+
+abbrev pub end_of : Layout → ℕ → ℕ
+end_of y b = start_of y b + y.rows
+
+-- where row a of box b lies, if the box stands and has the row
+abbrev pub place_in : Layout → ℕ → ℕ → ℕ → Option ℕ
+place_in y len b a = if stands_in y len b && nat_lt a y.rows then Some (start_of y b + a) else None
+
+-- where the column of box b will lie, if the box is out
+abbrev pub room_in : Layout → ℕ → ℕ → Option (Range ℕ)
+room_in y len b = if is_out_in y len b then Some (record { start = start_of y b; end = end_of y b }) else None
+
+-- the layout with another mark on box b
+abbrev pub with_mark : Layout → ℕ → Bool → Layout
+with_mark y b mark = record y { marks = slice_set y.marks (b - 1) mark }
+
+-- the row xs with x in the places from start to end
+abbrev pub filled : {T : Type 0} → List T → ℕ → ℕ → T → List T
+filled xs start end x = take start xs ++ (replicate (end - start) x ++ drop end xs)
+
+-- a shelf may have n boxes of l symbols where there is room for so many
+abbrev pub is_allowed : ℕ → ℕ → ℕ → Bool
+is_allowed n l room = nat_le 1 n && (nat_le n 32 && (nat_le 1 l && (nat_le l 4096 && nat_le (n * l) room)))
+
+-- the layout of such a shelf, with all boxes out, or of one with no boxes
+abbrev pub new_layout : ℕ → ℕ → ℕ → Layout
+new_layout n l room = if is_allowed n l room then record { marks = replicate 32 false; boxes = n; rows = l } else record { marks = replicate 32 false; boxes = 0; rows = 0 }
+
+-- what it means
+abbrev pub all_out : {T : Type 0} → ℕ → ℕ → ℕ → Meaning T
+all_out n l room = if is_allowed n l room then record { rows = l; boxes = replicate n None } else record { rows = 0; boxes = [] }
+
+-- a row of symbols has the column of each box that stands in its place
+abbrev pub Keeps : {T : Type 0} → Meaning T → List T → Type 0
+Keeps {T} m xs = (b : ℕ) (c : List T) → column m b ≡ Some c → slice_range xs ((b - 1) * m.rows) (b * m.rows) ≡ c
