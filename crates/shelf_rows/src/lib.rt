@@ -1,0 +1,61 @@
+// Several rows of one box of a shelf, read into a buffer or written from one.
+#![tactic(auto)]
+
+ghost use Rattle.std.specs.Prelude.{◌≡◌, length};
+ghost use Rattle.shelf_rows.specs.Laws.{RowsStand};
+ghost use Rattle.shelf_rows.specs.Rows.{has_rows, rows_read, with_rows};
+
+use shelf::Shelf;
+
+// Whether box b stands and has so many rows from row `from` on.
+fn has_room<S: Shelf>(shelf: &mut S, b: usize, from: usize, count: usize) -> bool
+    ensures answer { result ≡ has_rows (S.meaning shelf.old) b from count }
+    ensures stays { S.meaning shelf.new ≡ S.meaning shelf.old }
+    ensures lender { S.buffers shelf.new ≡ S.buffers shelf.old }
+{
+    let rows = shelf.sizes().rows;
+    shelf.stands(b) && from <= rows && count <= rows - from
+}
+
+// Copies rows of box b, from row `from` on and as many as the buffer is long,
+// into the buffer. Refused, with nothing written, unless the box stands and has
+// these rows.
+pub fn read_rows<S: Shelf>(shelf: &mut S, b: usize, from: usize, out: &mut [S::Symbol]) -> bool
+    ensures answer { result ≡ has_rows (S.meaning shelf.old) b from (length out.old) }
+    ensures buffer { out.new ≡ rows_read (S.meaning shelf.old) b from out.old }
+    ensures stays { S.meaning shelf.new ≡ S.meaning shelf.old }
+    ensures lender { S.buffers shelf.new ≡ S.buffers shelf.old }
+{
+    if !has_room(shelf, b, from, out.len()) {
+        return false;
+    }
+    for (i, symbol) in out.iter_mut().enumerate() {
+        if let Some(x) = shelf.fetch(b, from + i) {
+            *symbol = x;
+        }
+    }
+    true
+}
+
+// Writes the symbols into the rows of box b, from row `from` on. Refused, with
+// nothing written, unless the box stands and has these rows.
+pub fn write_rows<S: Shelf>(shelf: &mut S, b: usize, from: usize, symbols: &[S::Symbol]) -> bool
+    ensures answer { result ≡ has_rows (S.meaning shelf.old) b from (length symbols.now) }
+    ensures after { S.meaning shelf.new ≡ with_rows (S.meaning shelf.old) b from symbols.now }
+    ensures lender { S.buffers shelf.new ≡ S.buffers shelf.old }
+{
+    if !has_room(shelf, b, from, symbols.len()) {
+        return false;
+    }
+    for (i, symbol) in symbols.iter().enumerate() {
+        shelf.store(b, from + i, *symbol);
+    }
+    true
+}
+
+// A theorem of every shelf's symbols: what is written is read back and nothing
+// else changes, writes of adjoining rows are one write, and writes of rows that
+// are apart may go in either order.
+pub fn rows_stand<S: Shelf>()
+    ensures { RowsStand S.Symbol }
+{}
