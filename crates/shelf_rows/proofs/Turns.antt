@@ -9,50 +9,47 @@ use Rattle.shelf_rows.specs.Rows.{has_rows, overwritten, rows_at, rows_read, wit
 use Rattle.shelf_rows.proofs.Columns.{overwritten-more, overwritten_all, overwritten_none}
 use Rattle.shelf_rows.proofs.Rows.{changed_twice, column_there, row_read, rows_counted}
 
-module _ {T : Type 0} (m : Meaning T) (b from n : ℕ) (s : IsShelf m) (e : has_rows m b from n ≡ true) where
+module _ {T : Type 0} (m : Meaning T) (b from : ℕ) where
+  pub write_none : with_rows m b from [] ≡ m
+  write_none = change-same m b (with_stretch from []) (by (column m b))
+    where
+      by : (o : Option (List T)) → with_stretch from [] o ≡ o
+      by None = refl
+      by (Some ys) = ap Some (overwritten_none from ys)
+
   -- one symbol more is written
-  pub write_more : (m' m'' : Meaning T) (xs : List T) (i : ℕ) (x : T) → length xs ≡ n → i < n → x ≡ slice_index_or xs i x
-      → m' ≡ with_rows m b from (take i xs) → m'' ≡ with_symbol m' b (from + i) x → m'' ≡ with_rows m b from (take (i + 1) xs)
-  write_more m' m'' xs i x l h r was is =
-      let c = column_there m b from n s e in
-      is ∙ ap (λ k. with_symbol k b (from + i) x) was
-      ∙ changed_twice m b (with_stretch from (take i xs)) (with_row (from + i) x) (with_stretch from (take (i + 1) xs))
+  pub write_more : (xs : List T) (i : ℕ) (x : T) → IsShelf m → has_rows m b from (length xs) ≡ true → i < length xs → x ≡ slice_index_or xs i x
+      → with_symbol (with_rows m b from (take i xs)) b (from + i) x ≡ with_rows m b from (take (i + 1) xs)
+  write_more xs i x s e h r =
+      let c = column_there m b from (length xs) s e in
+      changed_twice m b (with_stretch from (take i xs)) (with_row (from + i) x) (with_stretch from (take (i + 1) xs))
       (ap (λ o. with_row (from + i) x (with_stretch from (take i xs) o)) c.1
-      ∙ ap Some (overwritten-more from xs c.0 i x (omega arith) r (omega (arith, c.2)))
+      ∙ ap Some (overwritten-more from xs c.0 i x h r c.2)
       ∙ sym (ap (with_stretch from (take (i + 1) xs)) c.1))
 
-  -- one symbol more is read
-  pub read_more : (ys out : List T) (i : ℕ) (x : T) → length out ≡ n → i < n → Some x ≡ symbol_at m b (from + i)
-      → ys ≡ overwritten 0 (take i (rows_at m b from n)) out → slice_set ys i x ≡ overwritten 0 (take (i + 1) (rows_at m b from n)) out
-  read_more ys out i x l h f was =
-      let k = rows_counted m b from n s e in
-      let r = get_or_from_slice_get (rows_at m b from n) i x x (row_read m b from n i h ∙ sym f) in
-      let z : 0 + i ≡ i = omega arith in
-      ap (λ zs. slice_set zs i x) was
-      ∙ ap (λ j. slice_set (overwritten 0 (take i (rows_at m b from n)) out) j x) (sym z)
-      ∙ overwritten-more 0 (rows_at m b from n) out i x (omega arith) (sym r) (omega arith)
+  module _ (out : List T) (i : ℕ) where
+    -- one symbol more is read
+    pub read_more : (x : T) → IsShelf m → has_rows m b from (length out) ≡ true → i < length out → symbol_at m b (from + i) ≡ Some x
+        → slice_set (overwritten 0 (take i (rows_at m b from (length out))) out) i x ≡ overwritten 0 (take (i + 1) (rows_at m b from (length out))) out
+    read_more x s e h f =
+        let k = rows_counted m b from (length out) s e in
+        let r = get_or_from_slice_get (rows_at m b from (length out)) i x x (row_read m b from (length out) i h ∙ f) in
+        let z : 0 + i ≡ i = omega arith in
+        ap (λ j. slice_set (overwritten 0 (take i (rows_at m b from (length out))) out) j x) (sym z)
+        ∙ overwritten-more 0 (rows_at m b from (length out)) out i x (omega arith) (sym r) (omega arith)
 
-  -- each row is there
-  pub read_there : (i : ℕ) → i < n → None ≡ symbol_at m b (from + i) → ⊥
-  read_there i h f =
-      let t : has_row m b (from + i) ≡ true = grind (arith, tests) in
-      let g = symbol_at_there m s b (from + i) t in
-      let q : None ≡ Some g.0 = f ∙ g.1 in
-      cc
+    -- each row is there
+    pub read_there : IsShelf m → has_rows m b from (length out) ≡ true → i < length out → symbol_at m b (from + i) ≡ None → ⊥
+    read_there s e h f =
+        let t : has_row m b (from + i) ≡ true = grind (arith, tests) in
+        let g = symbol_at_there m s b (from + i) t in
+        let q : None ≡ Some g.0 = sym f ∙ g.1 in
+        cc
 
-  -- all are read
-  pub read_all : (ys out : List T) (i : ℕ) → length out ≡ n → n ≤ i → ys ≡ overwritten 0 (take i (rows_at m b from n)) out → ys ≡ rows_read m b from out
-  read_all ys out i l h was =
-      let k = rows_counted m b from n s e in
-      was
-      ∙ ap (λ zs. overwritten 0 zs out) (take_all i (rows_at m b from n) (omega arith))
-      ∙ overwritten_all (rows_at m b from n) out (omega arith)
-      ∙ ap (rows_at m b from) (sym l)
-      ∙ sym (cond-true (has_rows m b from (length out)) (rows_at m b from (length out)) out (ap (has_rows m b from) l ∙ e))
-
-pub write_none : {T : Type 0} (m : Meaning T) (b from : ℕ) → m ≡ with_rows m b from []
-write_none {T} m b from = sym (change-same m b (with_stretch from []) (by (column m b)))
-  where
-    by : (o : Option (List T)) → with_stretch from [] o ≡ o
-    by None = refl
-    by (Some ys) = ap Some (overwritten_none from ys)
+    -- all are read
+    pub read_all : IsShelf m → has_rows m b from (length out) ≡ true → length out ≤ i → overwritten 0 (take i (rows_at m b from (length out))) out ≡ rows_read m b from out
+    read_all s e h =
+        let k = rows_counted m b from (length out) s e in
+        ap (λ zs. overwritten 0 zs out) (take_all i (rows_at m b from (length out)) (omega arith))
+        ∙ overwritten_all (rows_at m b from (length out)) out (omega arith)
+        ∙ sym (cond-true (has_rows m b from (length out)) (rows_at m b from (length out)) out e)
