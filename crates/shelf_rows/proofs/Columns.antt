@@ -6,15 +6,15 @@ use Rattle.std.proofs.lemmas.List.{length-append, length-take, length-take-le, l
 use Rattle.shelf_rows.specs.Rows.{overwritten}
 
 module _ {T : Type 0} where
-  -- lists that have the same in every place are the same
-  places_determine : (xs ys : List T) → ((i : ℕ) → slice_get xs i ≡ slice_get ys i) → xs ≡ ys
-  places_determine [] [] h = refl
-  places_determine [] (y ∷ ys) h = let e = h zero in absurd (grind arith)
-  places_determine (x ∷ xs) [] h = let e = h zero in absurd (grind arith)
-  places_determine (x ∷ xs) (y ∷ ys) h =
+  -- columns that have the same in every row are the same
+  rows_determine : (xs ys : List T) → ((i : ℕ) → slice_get xs i ≡ slice_get ys i) → xs ≡ ys
+  rows_determine [] [] h = refl
+  rows_determine [] (y ∷ ys) h = let e = h zero in absurd (grind arith)
+  rows_determine (x ∷ xs) [] h = let e = h zero in absurd (grind arith)
+  rows_determine (x ∷ xs) (y ∷ ys) h =
       let e = h zero in
       let first : x ≡ y = grind arith in
-      ap₂ (λ z zs. z ∷ zs) first (places_determine xs ys (λ i. h (suc i)))
+      ap₂ (λ z zs. z ∷ zs) first (rows_determine xs ys (λ i. h (suc i)))
 
   slice_get-left : (xs ys : List T) (i : ℕ) → i < length xs → slice_get (xs ++ ys) i ≡ slice_get xs i
   slice_get-left [] ys i h = absurd (omega arith)
@@ -49,14 +49,14 @@ module _ {T : Type 0} where
 
   ranges_determine : (xs ys : List T) (from n : ℕ) → ((i : ℕ) → i < n → slice_get xs (from + i) ≡ slice_get ys (from + i)) → slice_range xs from (from + n) ≡ slice_range ys from (from + n)
   ranges_determine xs ys from n h =
-      places_determine (slice_range xs from (from + n)) (slice_range ys from (from + n)) (λ i.
+      rows_determine (slice_range xs from (from + n)) (slice_range ys from (from + n)) (λ i.
       ⊎_elim
       (λ l. slice_get-range xs from n i l ∙ h i l ∙ sym (slice_get-range ys from n i l))
       (λ l. slice_get-range_past xs from n i l ∙ sym (slice_get-range_past ys from n i l))
       (cases_lt i n))
 
   module _ (from : ℕ) (xs ys : List T) where
-    pub overwritten_there : from + length xs ≤ length ys → overwritten from xs ys ≡ take from ys ++ xs ++ drop (from + length xs) ys
+    overwritten_there : from + length xs ≤ length ys → overwritten from xs ys ≡ take from ys ++ xs ++ drop (from + length xs) ys
     overwritten_there h = grind (arith, tests)
 
     pub overwritten_refused : length ys < from + length xs → overwritten from xs ys ≡ ys
@@ -124,7 +124,7 @@ module _ {T : Type 0} where
   -- what was written is read back
   pub overwritten_read : (from : ℕ) (xs ys : List T) → from + length xs ≤ length ys → slice_range (overwritten from xs ys) from (from + length xs) ≡ xs
   overwritten_read from xs ys h =
-      places_determine (slice_range (overwritten from xs ys) from (from + length xs)) xs (λ i.
+      rows_determine (slice_range (overwritten from xs ys) from (from + length xs)) xs (λ i.
       ⊎_elim
       (λ l.
       let e : from + i - from ≡ i = omega arith in
@@ -146,7 +146,7 @@ module _ {T : Type 0} where
   -- of two writes of the same rows the later one counts
   pub overwritten-again : (from : ℕ) (xs zs ys : List T) → length xs ≡ length zs → overwritten from zs (overwritten from xs ys) ≡ overwritten from zs ys
   overwritten-again from xs zs ys n =
-      places_determine (overwritten from zs (overwritten from xs ys)) (overwritten from zs ys) (λ a.
+      rows_determine (overwritten from zs (overwritten from xs ys)) (overwritten from zs ys) (λ a.
       ⊎_elim
       (λ l. slice_get-like from zs (overwritten from xs ys) ys a (length-overwritten from xs ys) (slice_get-before from xs ys a l))
       (λ l.
@@ -162,7 +162,7 @@ module _ {T : Type 0} where
 
   pub overwritten_none : (from : ℕ) (ys : List T) → overwritten from [] ys ≡ ys
   overwritten_none from ys =
-      places_determine (overwritten from [] ys) ys (λ a.
+      rows_determine (overwritten from [] ys) ys (λ a.
       ⊎_elim
       (slice_get-before from [] ys a)
       (λ l. slice_get-after from [] ys a (omega arith))
@@ -172,7 +172,7 @@ module _ {T : Type 0} where
   pub overwritten-same : (from n : ℕ) (ys : List T) → overwritten from (slice_range ys from (from + n)) ys ≡ ys
   overwritten-same from n ys =
       let xs = slice_range ys from (from + n) in
-      places_determine (overwritten from xs ys) ys (λ a.
+      rows_determine (overwritten from xs ys) ys (λ a.
       ⊎_elim
       (λ l. slice_get-before from xs ys a l)
       (λ l.
@@ -195,7 +195,7 @@ module _ {T : Type 0} where
   overwritten-adjoining from xs zs ys h =
       let n = length-append xs zs in
       let k = length-overwritten from xs ys in
-      places_determine (overwritten (from + length xs) zs (overwritten from xs ys)) (overwritten from (xs ++ zs) ys) (λ a.
+      rows_determine (overwritten (from + length xs) zs (overwritten from xs ys)) (overwritten from (xs ++ zs) ys) (λ a.
       ⊎_elim
       (λ l.
       slice_get-before (from + length xs) zs (overwritten from xs ys) a l
@@ -224,7 +224,7 @@ module _ {T : Type 0} where
   -- rows apart from one another
   pub overwritten-apart : (from other : ℕ) (xs zs ys : List T) → from + length xs ≤ other → overwritten other zs (overwritten from xs ys) ≡ overwritten from xs (overwritten other zs ys)
   overwritten-apart from other xs zs ys h =
-      places_determine (overwritten other zs (overwritten from xs ys)) (overwritten from xs (overwritten other zs ys)) (λ a.
+      rows_determine (overwritten other zs (overwritten from xs ys)) (overwritten from xs (overwritten other zs ys)) (λ a.
       ⊎_elim
       (λ l.
       slice_get-before other zs (overwritten from xs ys) a l

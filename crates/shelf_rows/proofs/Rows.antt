@@ -1,11 +1,11 @@
 -- Lemmas on rows of a shelf that are read and written together. Assumes nothing.
 use Rattle.std.proofs.Common.{◌≡◌, ◌≢◌, ℕ, zero, suc, ◌+◌, ◌-◌, ◌≤◌, ◌<◌, true, false, ◌&&◌, nat_le, List, [], ◌∷◌, ◌++◌, length, drop, slice_get, slice_range, Option, Some, None, is_some, refl, sym, ap, ◌∙◌, ◌⊎◌, ⊎_elim, subst, arith, tests}
-use Rattle.std.proofs.lemmas.Bool.{cases_eq}
+use Rattle.std.proofs.lemmas.Bool.{cases_eq, cond-true}
 use Rattle.std.proofs.lemmas.List.{length-drop, length-take}
 use Rattle.shelf.specs.Meaning.{AllHave, IsShelf, Meaning, box_count, change, column, in_box, in_place, is_standing, symbol_at, symbol_of, with_box, with_place}
 use Rattle.shelf.proofs.Places.{in_box-with_other, length-with_box, with_box-like, with_box-twice}
 use Rattle.shelf.proofs.Meanings.{change-same, column_length, standing_column}
-use Rattle.shelf_rows.specs.Rows.{has_rows, overwritten, rows_at, rows_of, with_rows, with_stretch}
+use Rattle.shelf_rows.specs.Rows.{has_rows, overwritten, rows_at, rows_of, rows_read, with_rows, with_stretch}
 use Rattle.shelf_rows.specs.Laws.{Apart, RowsStand}
 use Rattle.shelf_rows.proofs.Columns.{length-overwritten, overwritten-adjoining, overwritten-again, overwritten-apart, overwritten-same, overwritten_read, overwritten_refused, range_after, range_before, slice_get-after, slice_get-before, slice_get-range, slice_get-within}
 
@@ -22,7 +22,7 @@ with_box-apart cs zero d f h n = refl
 with_box-apart cs (suc i) zero f h n = refl
 with_box-apart cs (suc i) (suc j) f h n = with_place-apart cs i j f h (λ e. n (ap suc e))
 
--- a change that takes in no box
+-- what a change under which no box comes makes of the box
 in_place-with : {C : Type 0} (cs : List (Option C)) (i : ℕ) (f : Option C → Option C) → f None ≡ None → in_place (with_place cs i f) i ≡ f (in_place cs i)
 in_place-with [] i f e = sym e
 in_place-with (c ∷ cs) zero f e = refl
@@ -61,6 +61,10 @@ module _ {T : Type 0} where
       by : (o : Option (List T)) → slice_get (rows_of o from n) i ≡ symbol_of o (from + i)
       by None = refl
       by (Some ys) = slice_get-range ys from n i l
+
+  -- a buffer, once the rows were read
+  pub rows_read_there : (m : Meaning T) (b from : ℕ) (xs : List T) → has_rows m b from (length xs) ≡ true → rows_read m b from xs ≡ rows_at m b from (length xs)
+  rows_read_there m b from xs e = cond-true (has_rows m b from (length xs)) (rows_at m b from (length xs)) xs e
 
   pub refused : (m : Meaning T) (b from : ℕ) (xs : List T) → IsShelf m → has_rows m b from (length xs) ≡ false → with_rows m b from xs ≡ m
   refused m b from xs s e = change-same m b (with_stretch from xs) (by (column m b) refl)

@@ -1,13 +1,12 @@
 -- Lemmas on the loops that read or write one row after another. Assumes nothing.
 use Rattle.std.proofs.Common.{◌≡◌, ℕ, ◌+◌, ◌≤◌, ◌<◌, true, List, [], length, take, slice_set, slice_index_or, Option, Some, None, refl, sym, ap, ◌∙◌, arith, tests}
 use Rattle.std.proofs.lemmas.List.{take_all}
-use Rattle.std.proofs.lemmas.Bool.{cond-true}
 use Rattle.std.proofs.lemmas.Option.{get_or_from_slice_get}
 use Rattle.shelf.specs.Meaning.{IsShelf, Meaning, column, has_row, symbol_at, with_row, with_symbol}
 use Rattle.shelf.proofs.Meanings.{change-same, symbol_at_there}
 use Rattle.shelf_rows.specs.Rows.{has_rows, overwritten, rows_at, rows_read, with_rows, with_stretch}
 use Rattle.shelf_rows.proofs.Columns.{overwritten-more, overwritten_all, overwritten_none}
-use Rattle.shelf_rows.proofs.Rows.{changed_twice, column_there, row_read, rows_counted}
+use Rattle.shelf_rows.proofs.Rows.{changed_twice, column_there, row_read, rows_counted, rows_read_there}
 
 module _ {T : Type 0} (m : Meaning T) (b from : ℕ) where
   pub write_none : with_rows m b from [] ≡ m
@@ -52,4 +51,4 @@ module _ {T : Type 0} (m : Meaning T) (b from : ℕ) where
         let k = rows_counted m b from (length out) s e in
         ap (λ zs. overwritten 0 zs out) (take_all i (rows_at m b from (length out)) (omega arith))
         ∙ overwritten_all (rows_at m b from (length out)) out (omega arith)
-        ∙ sym (cond-true (has_rows m b from (length out)) (rows_at m b from (length out)) out e)
+        ∙ sym (rows_read_there m b from out e)

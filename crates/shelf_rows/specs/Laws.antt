@@ -7,6 +7,7 @@ use Rattle.shelf_rows.specs.Rows.{has_rows, rows_at, with_rows}
 abbrev pub Apart : ℕ → ℕ → ℕ → ℕ → ℕ → ℕ → Type 0
 Apart b from n d other k = (b ≢ d) ⊎ ((from + n ≤ other) ⊎ (other + k ≤ from))
 
+-- what holds of every write, and of what is read after it
 pub record RowsStand (T : Type 0) : Type 0 where
   -- the rows that are read are the box's, as many as are asked for
   pub rows_counted : (m : Meaning T) (b from n : ℕ) → IsShelf m → has_rows m b from n ≡ true → length (rows_at m b from n) ≡ n
