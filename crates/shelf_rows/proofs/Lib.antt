@@ -1,0 +1,3 @@
+pub mod Columns
+pub mod Rows
+mod Turns
