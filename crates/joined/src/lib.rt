@@ -1,0 +1,137 @@
+// Two shelves as one: the boxes of the first, and then those of the second.
+#![tactic(auto)]
+
+ghost use Rattle.std.specs.Prelude.{◌≡◌, ℕ, ◌+◌, ◌++◌, ◌&&◌, ◌==◌, nat_le};
+ghost use Rattle.joined.specs.Joining.{joined};
+ghost use Rattle.joined.specs.Sides.{side_of};
+ghost use Rattle.joined.specs.Sound.{joined_sound};
+
+use shelf::{Shelf, Sizes};
+
+// The most boxes that a shelf may have.
+const MOST_BOXES: usize = 32;
+
+#[derive(Drop)]
+pub struct Joined<A, B> {
+    first: A,
+    second: B,
+}
+
+// On which side a box is found, and under which number.
+enum Side {
+    First(usize),
+    Second(usize),
+    Neither,
+}
+
+// Whether two shelves of these sizes go together.
+fn is_joinable(first: Sizes, second: Sizes) -> bool
+    ensures { result ≡ ((first.rows == second.rows) && nat_le (first.boxes + second.boxes) 32) }
+{
+    first.rows == second.rows
+        && first.boxes <= MOST_BOXES
+        && second.boxes <= MOST_BOXES - first.boxes
+}
+
+impl<A: Shelf, B: Shelf<Symbol = A::Symbol>> Joined<A, B> {
+    pub fn new(first: A, second: B) -> Joined<A, B>
+        ensures holds { ⟦<Joined<A, B> as Shelf>⟧.meaning result
+            ≡ joined (A.meaning first) (B.meaning second) }
+        ensures lender { ⟦<Joined<A, B> as Shelf>⟧.buffers result
+            ≡ A.buffers first ++ B.buffers second }
+    {
+        Joined { first, second }
+    }
+
+    // Gives back the two shelves.
+    pub fn into_parts(self) -> (A, B)
+        ensures holds { joined (A.meaning result.0) (B.meaning result.1)
+            ≡ ⟦<Joined<A, B> as Shelf>⟧.meaning self }
+        ensures lender { A.buffers result.0 ++ B.buffers result.1
+            ≡ ⟦<Joined<A, B> as Shelf>⟧.buffers self }
+    {
+        (self.first, self.second)
+    }
+
+    fn side(&mut self, b: usize) -> Side
+        ensures answer { result ≡ side_of (A.meaning self.old.first) (B.meaning self.old.second) b }
+        ensures first { A.meaning self.new.first ≡ A.meaning self.old.first }
+        ensures second { B.meaning self.new.second ≡ B.meaning self.old.second }
+        ensures first_lender { A.buffers self.new.first ≡ A.buffers self.old.first }
+        ensures second_lender { B.buffers self.new.second ≡ B.buffers self.old.second }
+    {
+        let first = self.first.sizes();
+        let second = self.second.sizes();
+        if !is_joinable(first, second) {
+            Side::Neither
+        } else if b <= first.boxes {
+            Side::First(b)
+        } else {
+            Side::Second(b - first.boxes)
+        }
+    }
+}
+
+#[tactic(auto, using(crate::proofs::Found::found))]
+impl<A: Shelf, B: Shelf<Symbol = A::Symbol>> Shelf for Joined<A, B> {
+    type Symbol = A::Symbol;
+
+    ghost meaning = { λ s. joined (A.meaning s.first) (B.meaning s.second) };
+
+    ghost buffers = { λ s. A.buffers s.first ++ B.buffers s.second };
+
+    fn sizes(&mut self) -> Sizes {
+        let first = self.first.sizes();
+        let second = self.second.sizes();
+        if is_joinable(first, second) {
+            Sizes {
+                boxes: first.boxes + second.boxes,
+                rows: first.rows,
+            }
+        } else {
+            Sizes { boxes: 0, rows: 0 }
+        }
+    }
+
+    fn stands(&mut self, b: usize) -> bool {
+        match self.side(b) {
+            Side::First(d) => self.first.stands(d),
+            Side::Second(d) => self.second.stands(d),
+            Side::Neither => false,
+        }
+    }
+
+    fn fetch(&mut self, b: usize, a: usize) -> Option<A::Symbol> {
+        match self.side(b) {
+            Side::First(d) => self.first.fetch(d, a),
+            Side::Second(d) => self.second.fetch(d, a),
+            Side::Neither => None,
+        }
+    }
+
+    fn store(&mut self, b: usize, a: usize, x: A::Symbol) -> bool {
+        match self.side(b) {
+            Side::First(d) => self.first.store(d, a, x),
+            Side::Second(d) => self.second.store(d, a, x),
+            Side::Neither => false,
+        }
+    }
+
+    fn withdraw(&mut self, b: usize) -> bool {
+        match self.side(b) {
+            Side::First(d) => self.first.withdraw(d),
+            Side::Second(d) => self.second.withdraw(d),
+            Side::Neither => false,
+        }
+    }
+
+    fn insert(&mut self, b: usize, x: A::Symbol) -> bool {
+        match self.side(b) {
+            Side::First(d) => self.first.insert(d, x),
+            Side::Second(d) => self.second.insert(d, x),
+            Side::Neither => false,
+        }
+    }
+
+    ghost sound = { λ s. joined_sound (A.meaning s.first) (B.meaning s.second) (A.sound s.first) (B.sound s.second) };
+}
