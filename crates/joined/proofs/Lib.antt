@@ -1,1 +1,2 @@
 mod Found
+mod Joinings

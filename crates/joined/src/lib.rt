@@ -3,6 +3,7 @@
 
 ghost use Rattle.std.specs.Prelude.{◌≡◌, ℕ, ◌+◌, ◌++◌, ◌&&◌, ◌==◌, nat_le};
 ghost use Rattle.joined.specs.Joining.{joined};
+ghost use Rattle.joined.specs.Laws.{Associates, Joins};
 ghost use Rattle.joined.specs.Sides.{side_of};
 ghost use Rattle.joined.specs.Sound.{joined_sound};
 
@@ -135,3 +136,15 @@ impl<A: Shelf, B: Shelf<Symbol = A::Symbol>> Shelf for Joined<A, B> {
 
     ghost sound = { λ s. joined_sound (A.meaning s.first) (B.meaning s.second) (A.sound s.first) (B.sound s.second) };
 }
+
+// A theorem on shelves of any symbols: two that go together are the boxes of
+// the first and then those of the second, and others have no boxes.
+pub fn shelves_join<T: Copy>()
+    ensures { Joins T }
+{}
+
+// A theorem on shelves of any symbols: a joined shelf of joined shelves means
+// the same, however the three are bracketed.
+pub fn joining_associates<T: Copy>()
+    ensures { Associates T }
+{}
