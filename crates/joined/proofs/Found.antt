@@ -1,7 +1,7 @@
 -- A joined shelf, seen from the side on which a box is found. Assumes nothing.
 use Rattle.std.proofs.Common.{◌≡◌, ℕ, ◌+◌, ◌-◌, ◌≤◌, ◌<◌, Bool, true, false, ◌&&◌, ◌==◌, nat_le, cond, List, ◌++◌, replicate, Option, refl, sym, ap, ◌∙◌, arith, tests}
 use Rattle.shelf.specs.Meaning.{Meaning, box_count, column, change, is_box, unless_standing, with_box, with_standing}
-use Rattle.shelf.proofs.Places.{length-with_box, with_box-left, with_box-right}
+use Rattle.shelf.proofs.Places.{length-with_box, with_box_past, with_box-left, with_box-right}
 use Rattle.joined.specs.declared.Side.TheVariants.{First, Second, Neither}
 use Rattle.joined.specs.Joining.{is_joinable, joined}
 use Rattle.joined.specs.Laws.{JoinsBoxes}
@@ -76,4 +76,8 @@ module _ {T : Type 0} (m k : Meaning T) (b d : ℕ) (e : Second d ≡ side_of m 
   second-with_standing x =
       second-change (unless_standing (replicate k.rows x)) ∙ ap (λ l. change (joined m k) b (unless_standing (replicate l x))) (sym second-rows)
 
-pub ruleset found = (first-column, first-rows, first-is_box, first-change, second-column, second-rows, second-is_box, second-change)
+  -- the first shelf has no box of that number
+  pub second-past : (f : Option (List T) → Option (List T)) → change m b f ≡ m
+  second-past f = ap (λ cs. record { rows = m.rows; boxes = cs }) (with_box_past m.boxes b f in_second.2)
+
+pub ruleset found = (first-column, first-rows, first-is_box, first-change, second-column, second-rows, second-is_box, second-change, second-past)

@@ -2,8 +2,10 @@
 #![tactic(auto)]
 
 ghost use Rattle.std.specs.Prelude.{◌≡◌, ℕ, ◌+◌, ◌++◌, ◌&&◌, ◌==◌, nat_le};
+ghost use Rattle.shelf.specs.Meaning.{box_count, has_row, is_out, is_standing, symbol_at, with_out, with_standing, with_symbol};
 ghost use Rattle.joined.specs.Joining.{joined};
 ghost use Rattle.joined.specs.Laws.{Associates, Joins};
+ghost use Rattle.joined.specs.Parts.{apart, change_apart, parts};
 ghost use Rattle.joined.specs.Sides.{side_of};
 ghost use Rattle.joined.specs.Sound.{joined_sound};
 
@@ -36,6 +38,7 @@ fn is_joinable(first: Sizes, second: Sizes) -> bool
 
 impl<A: Shelf, B: Shelf<Symbol = A::Symbol>> Joined<A, B> {
     pub fn new(first: A, second: B) -> Joined<A, B>
+        ensures parts { parts result ≡ (first, second) }
         ensures holds { ⟦<Joined<A, B> as Shelf>⟧.meaning result
             ≡ joined (A.meaning first) (B.meaning second) }
         ensures lender { ⟦<Joined<A, B> as Shelf>⟧.buffers result
@@ -46,6 +49,7 @@ impl<A: Shelf, B: Shelf<Symbol = A::Symbol>> Joined<A, B> {
 
     // Gives back the two shelves.
     pub fn into_parts(self) -> (A, B)
+        ensures parts { result ≡ parts self }
         ensures holds { joined (A.meaning result.0) (B.meaning result.1)
             ≡ ⟦<Joined<A, B> as Shelf>⟧.meaning self }
         ensures lender { A.buffers result.0 ++ B.buffers result.1
@@ -81,7 +85,13 @@ impl<A: Shelf, B: Shelf<Symbol = A::Symbol>> Shelf for Joined<A, B> {
 
     ghost buffers = { λ s. A.buffers s.first ++ B.buffers s.second };
 
-    fn sizes(&mut self) -> Sizes {
+    fn sizes(&mut self) -> Sizes
+        ensures boxes { result.boxes ≡ box_count (⟦<Joined<A, B> as Shelf>⟧.meaning self.old) }
+        ensures rows { result.rows ≡ (⟦<Joined<A, B> as Shelf>⟧.meaning self.old).rows }
+        ensures stays { ⟦<Joined<A, B> as Shelf>⟧.meaning self.new ≡ ⟦<Joined<A, B> as Shelf>⟧.meaning self.old }
+        ensures apart { apart A.meaning B.meaning self.new ≡ apart A.meaning B.meaning self.old }
+        ensures lender { ⟦<Joined<A, B> as Shelf>⟧.buffers self.new ≡ ⟦<Joined<A, B> as Shelf>⟧.buffers self.old }
+    {
         let first = self.first.sizes();
         let second = self.second.sizes();
         if is_joinable(first, second) {
@@ -94,7 +104,12 @@ impl<A: Shelf, B: Shelf<Symbol = A::Symbol>> Shelf for Joined<A, B> {
         }
     }
 
-    fn stands(&mut self, b: usize) -> bool {
+    fn stands(&mut self, b: usize) -> bool
+        ensures answer { result ≡ is_standing (⟦<Joined<A, B> as Shelf>⟧.meaning self.old) b }
+        ensures stays { ⟦<Joined<A, B> as Shelf>⟧.meaning self.new ≡ ⟦<Joined<A, B> as Shelf>⟧.meaning self.old }
+        ensures apart { apart A.meaning B.meaning self.new ≡ apart A.meaning B.meaning self.old }
+        ensures lender { ⟦<Joined<A, B> as Shelf>⟧.buffers self.new ≡ ⟦<Joined<A, B> as Shelf>⟧.buffers self.old }
+    {
         match self.side(b) {
             Side::First(d) => self.first.stands(d),
             Side::Second(d) => self.second.stands(d),
@@ -102,7 +117,12 @@ impl<A: Shelf, B: Shelf<Symbol = A::Symbol>> Shelf for Joined<A, B> {
         }
     }
 
-    fn fetch(&mut self, b: usize, a: usize) -> Option<A::Symbol> {
+    fn fetch(&mut self, b: usize, a: usize) -> Option<A::Symbol>
+        ensures answer { result ≡ symbol_at (⟦<Joined<A, B> as Shelf>⟧.meaning self.old) b a }
+        ensures stays { ⟦<Joined<A, B> as Shelf>⟧.meaning self.new ≡ ⟦<Joined<A, B> as Shelf>⟧.meaning self.old }
+        ensures apart { apart A.meaning B.meaning self.new ≡ apart A.meaning B.meaning self.old }
+        ensures lender { ⟦<Joined<A, B> as Shelf>⟧.buffers self.new ≡ ⟦<Joined<A, B> as Shelf>⟧.buffers self.old }
+    {
         match self.side(b) {
             Side::First(d) => self.first.fetch(d, a),
             Side::Second(d) => self.second.fetch(d, a),
@@ -110,7 +130,14 @@ impl<A: Shelf, B: Shelf<Symbol = A::Symbol>> Shelf for Joined<A, B> {
         }
     }
 
-    fn store(&mut self, b: usize, a: usize, x: A::Symbol) -> bool {
+    fn store(&mut self, b: usize, a: usize, x: A::Symbol) -> bool
+        ensures answer { result ≡ has_row (⟦<Joined<A, B> as Shelf>⟧.meaning self.old) b a }
+        ensures after { ⟦<Joined<A, B> as Shelf>⟧.meaning self.new
+            ≡ with_symbol (⟦<Joined<A, B> as Shelf>⟧.meaning self.old) b a x }
+        ensures apart { apart A.meaning B.meaning self.new
+            ≡ change_apart (λ m d. with_symbol m d a x) (apart A.meaning B.meaning self.old) b }
+        ensures lender { ⟦<Joined<A, B> as Shelf>⟧.buffers self.new ≡ ⟦<Joined<A, B> as Shelf>⟧.buffers self.old }
+    {
         match self.side(b) {
             Side::First(d) => self.first.store(d, a, x),
             Side::Second(d) => self.second.store(d, a, x),
@@ -118,7 +145,14 @@ impl<A: Shelf, B: Shelf<Symbol = A::Symbol>> Shelf for Joined<A, B> {
         }
     }
 
-    fn withdraw(&mut self, b: usize) -> bool {
+    fn withdraw(&mut self, b: usize) -> bool
+        ensures answer { result ≡ is_standing (⟦<Joined<A, B> as Shelf>⟧.meaning self.old) b }
+        ensures after { ⟦<Joined<A, B> as Shelf>⟧.meaning self.new
+            ≡ with_out (⟦<Joined<A, B> as Shelf>⟧.meaning self.old) b }
+        ensures apart { apart A.meaning B.meaning self.new
+            ≡ change_apart with_out (apart A.meaning B.meaning self.old) b }
+        ensures lender { ⟦<Joined<A, B> as Shelf>⟧.buffers self.new ≡ ⟦<Joined<A, B> as Shelf>⟧.buffers self.old }
+    {
         match self.side(b) {
             Side::First(d) => self.first.withdraw(d),
             Side::Second(d) => self.second.withdraw(d),
@@ -126,7 +160,14 @@ impl<A: Shelf, B: Shelf<Symbol = A::Symbol>> Shelf for Joined<A, B> {
         }
     }
 
-    fn insert(&mut self, b: usize, x: A::Symbol) -> bool {
+    fn insert(&mut self, b: usize, x: A::Symbol) -> bool
+        ensures answer { result ≡ is_out (⟦<Joined<A, B> as Shelf>⟧.meaning self.old) b }
+        ensures after { ⟦<Joined<A, B> as Shelf>⟧.meaning self.new
+            ≡ with_standing (⟦<Joined<A, B> as Shelf>⟧.meaning self.old) b x }
+        ensures apart { apart A.meaning B.meaning self.new
+            ≡ change_apart (λ m d. with_standing m d x) (apart A.meaning B.meaning self.old) b }
+        ensures lender { ⟦<Joined<A, B> as Shelf>⟧.buffers self.new ≡ ⟦<Joined<A, B> as Shelf>⟧.buffers self.old }
+    {
         match self.side(b) {
             Side::First(d) => self.first.insert(d, x),
             Side::Second(d) => self.second.insert(d, x),
