@@ -3,7 +3,7 @@ use Rattle.std.proofs.Common.{◌≡◌, ◌≢◌, ℕ, ◌+◌, ◌-◌, ◌�
 use Rattle.shelf.specs.Meaning.{Meaning, box_count, column}
 use Rattle.shelf.proofs.Places.{in_box-left, in_box-right}
 use Rattle.joined.specs.Joining.{is_joinable, both, no_boxes, joined}
-use Rattle.joined.specs.Laws.{JoinsBoxes, Joins, first_two, last_two, all_three, HasRows, Associates}
+use Rattle.joined.specs.Laws.{JoinsBoxes, Joins, first_two, last_two, all_three, HasRows, IsRegroupable, Associates}
 
 pub joined-joinable : {T : Type 0} (m k : Meaning T) → is_joinable m k ≡ true → joined m k ≡ both m k
 joined-joinable m k e = rw e refl
@@ -106,14 +106,14 @@ module _ {T : Type 0} (m k j : Meaning T) where
   last-none : is_joinable k j ≡ false → last_two m k j ≡ joined m no_boxes
   last-none f = ap (joined m) (joined-refused k j f)
 
-  any : (is_joinable m k ≡ false → HasRows j) → (is_joinable k j ≡ false → HasRows m) → first_two m k j ≡ last_two m k j
-  any p q = by (is_joinable m k) (is_joinable k j) refl refl
+  pub regrouped : IsRegroupable m k j → first_two m k j ≡ last_two m k j
+  regrouped p = by (is_joinable m k) (is_joinable k j) refl refl
     where
       left : is_joinable m k ≡ false → first_two m k j ≡ no_boxes
-      left e = first-none e ∙ ⊎_elim (λ h. h.1 ∙ empty j h.0 (p e)) (λ h. h) (none-left_cases j)
+      left e = first-none e ∙ ⊎_elim (λ h. h.1 ∙ empty j h.0 (p.last e)) (λ h. h) (none-left_cases j)
 
       right : is_joinable k j ≡ false → last_two m k j ≡ no_boxes
-      right f = last-none f ∙ ⊎_elim (λ h. h.1 ∙ empty m h.0 (q f)) (λ h. h) (none-right_cases m)
+      right f = last-none f ∙ ⊎_elim (λ h. h.1 ∙ empty m h.0 (p.first f)) (λ h. h) (none-right_cases m)
 
       by : (u v : Bool) → is_joinable m k ≡ u → is_joinable k j ≡ v → first_two m k j ≡ last_two m k j
       by true true e f = neither e f
@@ -153,7 +153,7 @@ associates = record {
   together = λ m k j l r h. three_together m k j (grind (arith, tests)) (grind (arith, tests)) h;
   too_many = three_too_many;
   neither_refused = neither;
-  refused = any;
+  regroupable = regrouped;
   first_needed = first_differs;
   last_needed = last_differs;
 }

@@ -4,7 +4,7 @@
 ghost use Rattle.std.specs.Prelude.{◌≡◌, ℕ, ◌+◌, ◌++◌, ◌&&◌, ◌==◌, nat_le};
 ghost use Rattle.shelf.specs.Meaning.{box_count, has_row, is_out, is_standing, symbol_at, with_out, with_standing, with_symbol};
 ghost use Rattle.joined.specs.Joining.{joined};
-ghost use Rattle.joined.specs.Laws.{Associates, Joins};
+ghost use Rattle.joined.specs.Laws.{Associates, IsRegroupable, Joins};
 ghost use Rattle.joined.specs.Parts.{apart, change_apart, parts};
 ghost use Rattle.joined.specs.Sides.{side_of};
 ghost use Rattle.joined.specs.Sound.{joined_sound};
@@ -74,6 +74,24 @@ impl<A: Shelf, B: Shelf<Symbol = A::Symbol>> Joined<A, B> {
         } else {
             Side::Second(b - first.boxes)
         }
+    }
+}
+
+impl<A: Shelf, B: Shelf<Symbol = A::Symbol>, C: Shelf<Symbol = A::Symbol>> Joined<Joined<A, B>, C> {
+    // The same three shelves, with the last two joined first.
+    pub fn regroup(self) -> Joined<A, Joined<B, C>>
+        ensures first { (parts result).0 ≡ (parts (parts self).0).0 }
+        ensures last { parts (parts result).1 ≡ ((parts (parts self).0).1, (parts self).1) }
+        ensures same { let front = apart A.meaning B.meaning (parts self).0 in
+            IsRegroupable front.0 front.1 (C.meaning (parts self).1)
+            → ⟦<Joined<A, Joined<B, C>> as Shelf>⟧.meaning result
+            ≡ ⟦<Joined<Joined<A, B>, C> as Shelf>⟧.meaning self }
+        ensures lender { ⟦<Joined<A, Joined<B, C>> as Shelf>⟧.buffers result
+            ≡ ⟦<Joined<Joined<A, B>, C> as Shelf>⟧.buffers self }
+    {
+        let (front, last) = self.into_parts();
+        let (first, second) = front.into_parts();
+        Joined::new(first, Joined::new(second, last))
     }
 }
 
