@@ -58,6 +58,7 @@ impl<A: Shelf, B: Shelf<Symbol = A::Symbol>> Joined<A, B> {
         (self.first, self.second)
     }
 
+    // Where box b is found.
     fn side(&mut self, b: usize) -> Side
         ensures answer { result ≡ side_of (A.meaning self.old.first) (B.meaning self.old.second) b }
         ensures first { A.meaning self.new.first ≡ A.meaning self.old.first }
@@ -78,7 +79,8 @@ impl<A: Shelf, B: Shelf<Symbol = A::Symbol>> Joined<A, B> {
 }
 
 impl<A: Shelf, B: Shelf<Symbol = A::Symbol>, C: Shelf<Symbol = A::Symbol>> Joined<Joined<A, B>, C> {
-    // The same three shelves, with the last two joined first.
+    // The same three shelves, with the last two joined first: it means the
+    // same, but for boxes without rows beside two that do not go together.
     pub fn regroup(self) -> Joined<A, Joined<B, C>>
         ensures first { (parts result).0 ≡ (parts (parts self).0).0 }
         ensures last { parts (parts result).1 ≡ ((parts (parts self).0).1, (parts self).1) }
@@ -95,6 +97,8 @@ impl<A: Shelf, B: Shelf<Symbol = A::Symbol>, C: Shelf<Symbol = A::Symbol>> Joine
     }
 }
 
+// Each function also says what becomes of either shelf by itself: two that do
+// not go together stay as they are, and can be taken apart again.
 #[tactic(auto, using(crate::proofs::Found::found))]
 impl<A: Shelf, B: Shelf<Symbol = A::Symbol>> Shelf for Joined<A, B> {
     type Symbol = A::Symbol;
@@ -106,9 +110,11 @@ impl<A: Shelf, B: Shelf<Symbol = A::Symbol>> Shelf for Joined<A, B> {
     fn sizes(&mut self) -> Sizes
         ensures boxes { result.boxes ≡ box_count (⟦<Joined<A, B> as Shelf>⟧.meaning self.old) }
         ensures rows { result.rows ≡ (⟦<Joined<A, B> as Shelf>⟧.meaning self.old).rows }
-        ensures stays { ⟦<Joined<A, B> as Shelf>⟧.meaning self.new ≡ ⟦<Joined<A, B> as Shelf>⟧.meaning self.old }
+        ensures stays { ⟦<Joined<A, B> as Shelf>⟧.meaning self.new
+            ≡ ⟦<Joined<A, B> as Shelf>⟧.meaning self.old }
         ensures apart { apart A.meaning B.meaning self.new ≡ apart A.meaning B.meaning self.old }
-        ensures lender { ⟦<Joined<A, B> as Shelf>⟧.buffers self.new ≡ ⟦<Joined<A, B> as Shelf>⟧.buffers self.old }
+        ensures lender { ⟦<Joined<A, B> as Shelf>⟧.buffers self.new
+            ≡ ⟦<Joined<A, B> as Shelf>⟧.buffers self.old }
     {
         let first = self.first.sizes();
         let second = self.second.sizes();
@@ -124,9 +130,11 @@ impl<A: Shelf, B: Shelf<Symbol = A::Symbol>> Shelf for Joined<A, B> {
 
     fn stands(&mut self, b: usize) -> bool
         ensures answer { result ≡ is_standing (⟦<Joined<A, B> as Shelf>⟧.meaning self.old) b }
-        ensures stays { ⟦<Joined<A, B> as Shelf>⟧.meaning self.new ≡ ⟦<Joined<A, B> as Shelf>⟧.meaning self.old }
+        ensures stays { ⟦<Joined<A, B> as Shelf>⟧.meaning self.new
+            ≡ ⟦<Joined<A, B> as Shelf>⟧.meaning self.old }
         ensures apart { apart A.meaning B.meaning self.new ≡ apart A.meaning B.meaning self.old }
-        ensures lender { ⟦<Joined<A, B> as Shelf>⟧.buffers self.new ≡ ⟦<Joined<A, B> as Shelf>⟧.buffers self.old }
+        ensures lender { ⟦<Joined<A, B> as Shelf>⟧.buffers self.new
+            ≡ ⟦<Joined<A, B> as Shelf>⟧.buffers self.old }
     {
         match self.side(b) {
             Side::First(d) => self.first.stands(d),
@@ -137,9 +145,11 @@ impl<A: Shelf, B: Shelf<Symbol = A::Symbol>> Shelf for Joined<A, B> {
 
     fn fetch(&mut self, b: usize, a: usize) -> Option<A::Symbol>
         ensures answer { result ≡ symbol_at (⟦<Joined<A, B> as Shelf>⟧.meaning self.old) b a }
-        ensures stays { ⟦<Joined<A, B> as Shelf>⟧.meaning self.new ≡ ⟦<Joined<A, B> as Shelf>⟧.meaning self.old }
+        ensures stays { ⟦<Joined<A, B> as Shelf>⟧.meaning self.new
+            ≡ ⟦<Joined<A, B> as Shelf>⟧.meaning self.old }
         ensures apart { apart A.meaning B.meaning self.new ≡ apart A.meaning B.meaning self.old }
-        ensures lender { ⟦<Joined<A, B> as Shelf>⟧.buffers self.new ≡ ⟦<Joined<A, B> as Shelf>⟧.buffers self.old }
+        ensures lender { ⟦<Joined<A, B> as Shelf>⟧.buffers self.new
+            ≡ ⟦<Joined<A, B> as Shelf>⟧.buffers self.old }
     {
         match self.side(b) {
             Side::First(d) => self.first.fetch(d, a),
@@ -154,7 +164,8 @@ impl<A: Shelf, B: Shelf<Symbol = A::Symbol>> Shelf for Joined<A, B> {
             ≡ with_symbol (⟦<Joined<A, B> as Shelf>⟧.meaning self.old) b a x }
         ensures apart { apart A.meaning B.meaning self.new
             ≡ change_apart (λ m d. with_symbol m d a x) (apart A.meaning B.meaning self.old) b }
-        ensures lender { ⟦<Joined<A, B> as Shelf>⟧.buffers self.new ≡ ⟦<Joined<A, B> as Shelf>⟧.buffers self.old }
+        ensures lender { ⟦<Joined<A, B> as Shelf>⟧.buffers self.new
+            ≡ ⟦<Joined<A, B> as Shelf>⟧.buffers self.old }
     {
         match self.side(b) {
             Side::First(d) => self.first.store(d, a, x),
@@ -169,7 +180,8 @@ impl<A: Shelf, B: Shelf<Symbol = A::Symbol>> Shelf for Joined<A, B> {
             ≡ with_out (⟦<Joined<A, B> as Shelf>⟧.meaning self.old) b }
         ensures apart { apart A.meaning B.meaning self.new
             ≡ change_apart with_out (apart A.meaning B.meaning self.old) b }
-        ensures lender { ⟦<Joined<A, B> as Shelf>⟧.buffers self.new ≡ ⟦<Joined<A, B> as Shelf>⟧.buffers self.old }
+        ensures lender { ⟦<Joined<A, B> as Shelf>⟧.buffers self.new
+            ≡ ⟦<Joined<A, B> as Shelf>⟧.buffers self.old }
     {
         match self.side(b) {
             Side::First(d) => self.first.withdraw(d),
@@ -184,7 +196,8 @@ impl<A: Shelf, B: Shelf<Symbol = A::Symbol>> Shelf for Joined<A, B> {
             ≡ with_standing (⟦<Joined<A, B> as Shelf>⟧.meaning self.old) b x }
         ensures apart { apart A.meaning B.meaning self.new
             ≡ change_apart (λ m d. with_standing m d x) (apart A.meaning B.meaning self.old) b }
-        ensures lender { ⟦<Joined<A, B> as Shelf>⟧.buffers self.new ≡ ⟦<Joined<A, B> as Shelf>⟧.buffers self.old }
+        ensures lender { ⟦<Joined<A, B> as Shelf>⟧.buffers self.new
+            ≡ ⟦<Joined<A, B> as Shelf>⟧.buffers self.old }
     {
         match self.side(b) {
             Side::First(d) => self.first.insert(d, x),
@@ -197,13 +210,14 @@ impl<A: Shelf, B: Shelf<Symbol = A::Symbol>> Shelf for Joined<A, B> {
 }
 
 // A theorem on shelves of any symbols: two that go together are the boxes of
-// the first and then those of the second, and others have no boxes.
+// the first and then those of the second, renumbered; others have no boxes.
 pub fn shelves_join<T: Copy>()
     ensures { Joins T }
 {}
 
 // A theorem on shelves of any symbols: a joined shelf of joined shelves means
-// the same, however the three are bracketed.
+// the same, whether the first two or the last two are joined first, unless a
+// shelf of boxes without rows stands outside two that do not go together.
 pub fn joining_associates<T: Copy>()
     ensures { Associates T }
 {}

@@ -8,6 +8,7 @@ returns g c = record {
   too_many = λ m k j e f h. (grind (arith, common_steps), grind (arith, common_steps));
   neither_refused = λ m k j e f. grind (arith, common_steps);
   regroupable = λ m k j p. grind (arith, common_steps);
+  outer_same = λ m k. grind (arith, common_steps);
   first_needed = λ m k j f r l h n e. grind (arith, common_steps);
   last_needed = λ m k j e r l h n f. grind (arith, common_steps);
 }
