@@ -16,13 +16,15 @@ pub record Joins (T : Type 0) : Type 0 where
   pub other_lengths : (m k : Meaning T) → m.rows ≢ k.rows → joined m k ≡ no_boxes
   pub too_many : (m k : Meaning T) → 32 < box_count m + box_count k → joined m k ≡ no_boxes
 
--- three shelves, the first two joined first, and the last two
+-- three shelves, of which the first two are joined first
 abbrev pub first_two : {T : Type 0} → Meaning T → Meaning T → Meaning T → Meaning T
 first_two m k j = joined (joined m k) j
 
+-- three shelves, of which the last two are joined first
 abbrev pub last_two : {T : Type 0} → Meaning T → Meaning T → Meaning T → Meaning T
 last_two m k j = joined m (joined k j)
 
+-- the boxes of three shelves, one after another
 abbrev pub all_three : {T : Type 0} → Meaning T → Meaning T → Meaning T → Meaning T
 all_three m k j = record { rows = m.rows; boxes = m.boxes ++ (k.boxes ++ j.boxes) }
 

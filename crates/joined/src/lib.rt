@@ -37,6 +37,8 @@ fn is_joinable(first: Sizes, second: Sizes) -> bool
 }
 
 impl<A: Shelf, B: Shelf<Symbol = A::Symbol>> Joined<A, B> {
+    // There are no boxes if the columns of the two are not as long, or if they
+    // have more than 32 boxes.
     pub fn new(first: A, second: B) -> Joined<A, B>
         ensures parts { parts result ≡ (first, second) }
         ensures holds { ⟦<Joined<A, B> as Shelf>⟧.meaning result
