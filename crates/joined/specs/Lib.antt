@@ -1,0 +1,5 @@
+pub mod Joining
+pub mod Laws
+pub mod Parts
+pub mod Sides
+pub mod Sound
