@@ -3,10 +3,11 @@
 
 ghost use Rattle.std.specs.Prelude.{◌≡◌, ℕ, ◌<◌, ◌≤◌, length, slice_get, slice_set, Some, [], ◌∷◌};
 ghost use Rattle.frame.specs.Layouts.{Keeps, all_out, filled};
+ghost use Rattle.shelf.specs.Calls.{after_all};
 ghost use Rattle.flat.specs.Held.{held, held_sound, lent};
 
 use frame::Frame;
-use shelf::{Shelf, Sizes};
+use shelf::{Call, Shelf, Sizes, perform_all};
 use std::ops::Range;
 
 #[derive(Drop)]
@@ -117,4 +118,14 @@ impl<'a, T: Copy> Shelf for Flat<'a, T> {
     }
 
     ghost sound = { held_sound };
+}
+
+// Performs calls on a shelf in the buffer, and lets it go: what they leave of
+// the shelf is in the buffer.
+pub fn perform_in<T: Copy>(buffer: &mut [T], boxes: usize, rows: usize, calls: &[Call<T>])
+    ensures { Keeps (after_all (all_out boxes rows (length buffer.old)) calls.now) buffer.new }
+{
+    let mut shelf = Flat::new(buffer, boxes, rows);
+    perform_all(&mut shelf, calls);
+    shelf.close();
 }

@@ -1,4 +1,5 @@
 -- What a shelf answers to a call, and what it means afterwards. Assumes nothing.
+use Rattle.std.specs.Prelude.{List, [], ◌∷◌}
 use Rattle.shelf.specs.declared.calls.Answer.{Answer}
 use Rattle.shelf.specs.declared.calls.Answer.TheVariants.{Size, Told, Symbol}
 use Rattle.shelf.specs.declared.calls.Call.{Call}
@@ -22,3 +23,8 @@ after m (Fetch b a) = m
 after m (Store b a x) = with_symbol m b a x
 after m (Withdraw b) = with_out m b
 after m (Insert b x) = with_standing m b x
+
+-- the same after calls one after another
+abbrev pub after_all : {T : Type 0} → Meaning T → List (Call T) → Meaning T
+after_all m [] = m
+after_all m (call ∷ calls) = after_all (after m call) calls

@@ -1,6 +1,6 @@
 // Calls of shelves as values, to say of any two shelves how they answer.
 ghost use Rattle.std.specs.Prelude.{◌≡◌};
-ghost use Rattle.shelf.specs.Calls.{after, answer_to};
+ghost use Rattle.shelf.specs.Calls.{after, after_all, answer_to};
 
 use crate::{Shelf, Sizes};
 
@@ -49,4 +49,14 @@ pub fn perform_on_both<A: Shelf, B: Shelf<Symbol = A::Symbol>>(
     ensures after { A.meaning first.old ≡ B.meaning second.old → A.meaning first.new ≡ B.meaning second.new }
 {
     (perform(first, call), perform(second, call))
+}
+
+// Performs calls one after another.
+pub fn perform_all<S: Shelf>(shelf: &mut S, calls: &[Call<S::Symbol>])
+    ensures after { S.meaning shelf.new ≡ after_all (S.meaning shelf.old) calls.now }
+    ensures lender { S.buffers shelf.new ≡ S.buffers shelf.old }
+{
+    for call in calls {
+        perform(shelf, *call);
+    }
 }

@@ -7,7 +7,7 @@ ghost use Rattle.shelf.specs.Meaning.{IsShelf, Meaning, box_count, has_row, is_o
 
 mod calls;
 
-pub use calls::{Answer, Call, perform, perform_on_both};
+pub use calls::{Answer, Call, perform, perform_all, perform_on_both};
 
 // How many boxes a shelf has, and how many rows each box.
 #[derive(Clone, Copy)]
