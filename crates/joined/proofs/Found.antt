@@ -47,4 +47,5 @@ module _ {T : Type 0} (m k : Meaning T) (b d : ℕ) (e : Second d ≡ side_of m 
   pub second-past : (f : Option (List T) → Option (List T)) → change m b f ≡ m
   second-past f = grind (arith, common_steps, with_box_past)
 
+-- what a question or a change on one side makes of the whole
 pub ruleset found = (first-column, first-rows, first-is_box, first-change, second-column, second-rows, second-is_box, second-change, second-past)

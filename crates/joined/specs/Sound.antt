@@ -4,6 +4,7 @@ use Rattle.std.proofs.Common.{refl, sym, subst, arith, tests, length-append}
 use Rattle.shelf.specs.Meaning.{AllHave, IsShelf, Meaning}
 use Rattle.joined.specs.Joining.{is_joinable, both, no_boxes, joined}
 
+-- two lists of columns with l rows are one
 all_have-append : {T : Type 0} (l : ℕ) (cs ds : List (Option (List T))) → AllHave l cs → AllHave l ds → AllHave l (cs ++ ds)
 all_have-append l [] ds h k = k
 all_have-append l (None ∷ cs) ds h k = all_have-append l cs ds h k

@@ -105,9 +105,9 @@ impl<A: Shelf, B: Shelf<Symbol = A::Symbol>, C: Shelf<Symbol = A::Symbol>> Joine
 impl<A: Shelf, B: Shelf<Symbol = A::Symbol>> Shelf for Joined<A, B> {
     type Symbol = A::Symbol;
 
-    ghost meaning = { λ s. joined (A.meaning s.first) (B.meaning s.second) };
+    ghost meaning = { λ s. joined (A.meaning (parts s).0) (B.meaning (parts s).1) };
 
-    ghost buffers = { λ s. A.buffers s.first ++ B.buffers s.second };
+    ghost buffers = { λ s. A.buffers (parts s).0 ++ B.buffers (parts s).1 };
 
     fn sizes(&mut self) -> Sizes
         ensures boxes { result.boxes ≡ box_count (⟦<Joined<A, B> as Shelf>⟧.meaning self.old) }
@@ -208,7 +208,8 @@ impl<A: Shelf, B: Shelf<Symbol = A::Symbol>> Shelf for Joined<A, B> {
         }
     }
 
-    ghost sound = { λ s. joined_sound (A.meaning s.first) (B.meaning s.second) (A.sound s.first) (B.sound s.second) };
+    ghost sound = { λ s. let p = parts s in
+        joined_sound (A.meaning p.0) (B.meaning p.1) (A.sound p.0) (B.sound p.1) };
 }
 
 // A theorem on shelves of any symbols: two that go together are the boxes of
