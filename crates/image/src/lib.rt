@@ -5,12 +5,13 @@ ghost use Rattle.std.specs.Prelude.{◌≡◌, ℕ, ◌/◌, ◌<◌, ◌≤◌,
 ghost use Rattle.frame.specs.Layouts.{Keeps, all_out, filled};
 ghost use Rattle.image.specs.Held.{held, held_sound, lent};
 ghost use Rattle.image.specs.Triples.{with_number, word_at, words};
+ghost use Rattle.shelf.specs.Calls.{after_all};
 ghost use Rattle.prime.specs.Words.{word_number};
 
 use field::residue::Residue;
 use frame::Frame;
 use prime::words::Words;
-use shelf::{Shelf, Sizes};
+use shelf::{Call, Shelf, Sizes, perform_all};
 use std::ops::Range;
 
 #[derive(Drop)]
@@ -146,4 +147,14 @@ impl<'a> Shelf for Image<'a> {
     }
 
     ghost sound = { held_sound };
+}
+
+// Performs calls on a shelf in the buffer, and lets it go: what they leave of
+// the shelf is in the buffer.
+pub fn perform_in(buffer: &mut [u8], boxes: usize, rows: usize, calls: &[Call<Words>])
+    ensures { Keeps (after_all (all_out boxes rows (length buffer.old / 3)) calls.now) (words buffer.new) }
+{
+    let mut shelf = Image::new(buffer, boxes, rows);
+    perform_all(&mut shelf, calls);
+    shelf.close();
 }

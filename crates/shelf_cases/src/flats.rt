@@ -64,7 +64,14 @@ fn past_the_edges(rt: HostRuntime) {
     assert!(&rt; shelf.insert(1, 1));
     assert!(&rt; shelf.insert(2, 2));
     assert!(&rt; !shelf.insert(3, 3));
-    for (b, a) in [(0, 0), (3, 0), (1, 3), (2, 3), (usize::MAX, 0), (1, usize::MAX)] {
+    for (b, a) in [
+        (0, 0),
+        (3, 0),
+        (1, 3),
+        (2, 3),
+        (usize::MAX, 0),
+        (1, usize::MAX),
+    ] {
         assert_eq!(&rt; shelf.fetch(b, a), None);
         assert!(&rt; !shelf.store(b, a, 7));
     }
@@ -139,7 +146,10 @@ fn of_words(rt: HostRuntime) {
         assert_eq!(&rt; shelf.fetch(2, 1), Some(Words::Low(65535)));
         assert!(&rt; shelf.insert(1, Words::Low(0)));
     }
-    assert_eq!(&rt; buffer, [Words::Low(0), Words::Low(0), Words::Top, Words::Low(65535)]);
+    assert_eq!(&rt;
+        buffer,
+        [Words::Low(0), Words::Low(0), Words::Top, Words::Low(65535)]
+    );
 }
 
 // Readings of the left and the right ear side by side.

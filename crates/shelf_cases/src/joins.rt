@@ -37,7 +37,10 @@ fn one_after_another(rt: HostRuntime) {
         assert_eq!(&rt; shelf.fetch(3, 0), Some(Words::Low(30)));
         assert_eq!(&rt; shelf.fetch(3, 1), Some(Words::Low(3)));
     }
-    assert_eq!(&rt; words, [Words::Low(1), Words::Low(1), Words::Low(2), Words::Low(20)]);
+    assert_eq!(&rt;
+        words,
+        [Words::Low(1), Words::Low(1), Words::Low(2), Words::Low(20)]
+    );
     assert_eq!(&rt; bytes, [0, 0, 30, 0, 0, 3, 0, 0, 4, 0, 0, 4]);
 }
 
@@ -78,4 +81,28 @@ fn three_in_a_row(rt: HostRuntime) {
     assert_eq!(&rt; first, [1, 1]);
     assert_eq!(&rt; second, [22, 2]);
     assert_eq!(&rt; third, [3, 33]);
+}
+
+// The same boxes, with the last two joined first, and each shelf by itself again.
+#[test]
+fn regrouped(rt: HostRuntime) {
+    let mut first = [0u8; 2];
+    let mut second = [0u8; 2];
+    let mut third = [0u8; 2];
+    let pair = Joined::new(Flat::new(&mut first, 1, 2), Flat::new(&mut second, 1, 2));
+    let mut shelf = Joined::new(pair, Flat::new(&mut third, 1, 2));
+    for b in 1..4 {
+        assert!(&rt; shelf.insert(b, b as u8));
+    }
+    let mut shelf = shelf.regroup();
+    assert_eq!(&rt; sizes(&mut shelf), (3, 2));
+    for b in 1..4 {
+        assert_eq!(&rt; shelf.fetch(b, 1), Some(b as u8));
+    }
+    assert!(&rt; shelf.withdraw(2));
+    let (mut left, right) = shelf.into_parts();
+    let (mut middle, mut last) = right.into_parts();
+    assert_eq!(&rt; left.fetch(1, 0), Some(1));
+    assert!(&rt; !middle.stands(1));
+    assert_eq!(&rt; last.fetch(1, 0), Some(3));
 }

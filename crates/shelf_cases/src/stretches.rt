@@ -32,7 +32,16 @@ fn refused(rt: HostRuntime) {
     {
         let mut shelf = Flat::new(&mut buffer, 2, 4);
         assert!(&rt; shelf.insert(2, 9));
-        let cases = [(0, 0), (1, 0), (3, 0), (2, 2), (2, 4), (2, 5), (2, usize::MAX), (usize::MAX, 0)];
+        let cases = [
+            (0, 0),
+            (1, 0),
+            (3, 0),
+            (2, 2),
+            (2, 4),
+            (2, 5),
+            (2, usize::MAX),
+            (usize::MAX, 0),
+        ];
         for (b, from) in cases {
             let mut out = [1, 2, 3];
             assert!(&rt; !read_rows(&mut shelf, b, from, &mut out));
