@@ -1,7 +1,8 @@
 // A shelf in a lent buffer of symbols, box after box.
 #![tactic(auto)]
 
-ghost use Rattle.std.specs.Prelude.{◌≡◌, ℕ, ◌<◌, ◌≤◌, length, slice_get, slice_set, Some, [], ◌∷◌};
+ghost use Rattle.std.specs.Prelude.{◌≡◌, ℕ, ◌<◌, ◌≤◌, length, slice_get, slice_set, MatchOption, Some, [], ◌∷◌};
+ghost use Rattle.frame.specs.Frames.{Absent, Opened, Present, Shut};
 ghost use Rattle.frame.specs.Layouts.{Keeps, all_out, filled};
 ghost use Rattle.shelf.specs.Calls.{after_all};
 ghost use Rattle.flat.specs.Held.{held, held_sound, lent};
@@ -44,6 +45,7 @@ fn fill<T: Copy>(s: &mut [T], places: Range<usize>, x: T)
 impl<'a, T: Copy> Flat<'a, T> {
     // All boxes are out; there are none if the sizes are not allowed, or need
     // more than the buffer.
+    #[tactic(auto, using(frame::proofs::Calls::begun_told))]
     pub fn new(buffer: &'a mut [T], boxes: usize, rows: usize) -> Flat<'a, T>
         ensures meaning { ⟦<Flat<'a, T> as Shelf>⟧.meaning result ≡ all_out boxes rows (length buffer.old) }
         ensures lender { ⟦<Flat<'a, T> as Shelf>⟧.buffers result ≡ buffer.entry.ghost_name ∷ [] }
@@ -55,6 +57,23 @@ impl<'a, T: Copy> Flat<'a, T> {
         }
     }
 
+    // Where row a of box b lies, absent unless the box stands and has the row.
+    fn place(&self, b: usize, a: usize) -> Option<usize>
+        ensures { MatchOption result (Absent self.now.frame self.now.buffer.now b a) (Present self.now.frame self.now.buffer.now b a) }
+    {
+        self.frame.place(self.buffer.len(), b, a)
+    }
+
+    // Marks box b as standing, and says where its column lies, absent unless it
+    // is a box that is out.
+    fn open(&mut self, b: usize) -> Option<Range<usize>>
+        ensures answer { MatchOption result (Shut self.old.frame self.new.frame self.old.buffer.now b) (Opened self.old.frame self.new.frame self.old.buffer.now b) }
+        ensures symbols { self.new.buffer.now ≡ self.old.buffer.now }
+        ensures lender { self.new.buffer.ghost_name ≡ self.old.buffer.ghost_name }
+    {
+        self.frame.insert(self.buffer.len(), b)
+    }
+
     // The symbol in a place of the buffer.
     fn symbol(&self, i: usize) -> T
         requires { i < length self.now.buffer.now }
@@ -64,11 +83,13 @@ impl<'a, T: Copy> Flat<'a, T> {
     }
 
     // Lets the shelf go: the column of each box that stands is in the buffer.
+    #[tactic(auto, using(frame::proofs::Calls::column_told))]
     pub fn close(self)
         ensures { Keeps (⟦<Flat<'a, T> as Shelf>⟧.meaning self.entry) self.exit.0.now }
     {}
 
     // Lets the shelf go, and gives the buffer to whoever goes on with it.
+    #[tactic(auto, using(frame::proofs::Calls::column_told))]
     pub fn into_buffer(self) -> &'a mut [T]
         ensures lender { ⟦<Flat<'a, T> as Shelf>⟧.buffers self.entry ≡ result.ghost_name ∷ [] }
         ensures keeps { Keeps (⟦<Flat<'a, T> as Shelf>⟧.meaning self.entry) result.now }
@@ -84,33 +105,36 @@ impl<'a, T: Copy> Shelf for Flat<'a, T> {
 
     ghost buffers = { lent };
 
+    #[tactic(auto, using(frame::proofs::Calls::box_count_told))]
     fn sizes(&mut self) -> Sizes {
         self.frame.sizes(self.buffer.len())
     }
 
+    #[tactic(auto, using(frame::proofs::Calls::standing_told))]
     fn stands(&mut self, b: usize) -> bool {
         self.frame.stands(self.buffer.len(), b)
     }
 
     fn fetch(&mut self, b: usize, a: usize) -> Option<T> {
-        let i = self.frame.place(self.buffer.len(), b, a)?;
+        let i = self.place(b, a)?;
         Some(self.symbol(i))
     }
 
     fn store(&mut self, b: usize, a: usize, x: T) -> bool {
-        let Some(i) = self.frame.place(self.buffer.len(), b, a) else {
+        let Some(i) = self.place(b, a) else {
             return false;
         };
         put(self.buffer, i, x);
         true
     }
 
+    #[tactic(auto, using(frame::proofs::Calls::standing_told, frame::proofs::Calls::out_told))]
     fn withdraw(&mut self, b: usize) -> bool {
         self.frame.withdraw(self.buffer.len(), b)
     }
 
     fn insert(&mut self, b: usize, x: T) -> bool {
-        let Some(places) = self.frame.insert(self.buffer.len(), b) else {
+        let Some(places) = self.open(b) else {
             return false;
         };
         fill(self.buffer, places, x);

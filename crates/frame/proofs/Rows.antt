@@ -1,13 +1,13 @@
 -- What the calls of a frame make of a row of symbols that it divides. Assumes nothing.
-use Rattle.std.proofs.Common.{◌≡◌, ℕ, zero, suc, ◌+◌, ◌-◌, ◌*◌, ◌≤◌, ◌<◌, Bool, true, false, not, ◌&&◌, nat_le, nat_lt, if◌then◌else◌, List, [], ◌∷◌, length, take, drop, slice_get, slice_index_or, slice_set, Some, None, is_some, refl, sym, ap, ◌∙◌, arith, suc-add, inl, inr, length-set, length-take}
+use Rattle.std.proofs.Common.{◌≡◌, ℕ, zero, suc, ◌+◌, ◌-◌, ◌*◌, ◌≤◌, ◌<◌, Bool, true, false, not, ◌&&◌, nat_le, nat_lt, if◌then◌else◌, List, [], ◌∷◌, length, take, drop, slice_get, slice_index_or, slice_range, slice_set, Some, None, is_some, refl, sym, ap, ◌∙◌, arith, suc-add, inl, inr, length-set, length-take}
 use Rattle.std.proofs.Math.Nat.{mul-le-mul_right, suc-mul}
 use Rattle.std.proofs.Math.Seq.{take-set-lt}
 use Rattle.std.proofs.lemmas.Bool.{and_parts, cases_lt, not-true, leb-true, le-leb, lt-leb, ltb-true}
 use Rattle.std.proofs.lemmas.List.{get_or-take, get_or_past, length-take-le}
-use Rattle.std.proofs.lemmas.Option.{cond_some, none-some, same_Some}
+use Rattle.std.proofs.lemmas.Option.{cond_some}
 use Rattle.std.specs.declared.ops.Range.{Range}
 use Rattle.shelf.specs.Meaning.{box_count, column, has_row, is_out, is_standing, symbol_at, symbol_of, with_out, with_standing, with_symbol}
-use Rattle.frame.specs.Layouts.{Keeps, Layout, box_of, boxes_in, end_of, filled, is_marked, is_numbered, is_out_in, laid, place_in, room_in, stands_in, start_of, with_mark}
+use Rattle.frame.specs.Layouts.{Layout, box_of, boxes_in, end_of, filled, is_marked, is_numbered, is_out_in, laid, place_in, room_in, stands_in, start_of, with_mark}
 use Rattle.frame.specs.Frames.{boxes_fit, length-cut}
 use Rattle.frame.proofs.Cuts.{cut_in, cut_out, cut_set, in_place-cut, length-filled}
 
@@ -183,14 +183,14 @@ module _ {T : Type 0} (y : Layout) (xs : List T) where
       (ap (λ cs. record { rows = y.rows; boxes = cs }) (cut_out y.rows j (take n y.marks) xs inside))
 
   -- each column that stands lies in its place
-  pub laid_keeps : Keeps (laid y xs) xs
-  laid_keeps zero c e = absurd (none-some c e)
-  laid_keeps (suc j) c e =
+  pub column_placed : (b : ℕ) → column (laid y xs) b ≡ (if stands_in y (length xs) b then Some (slice_range xs ((b - 1) * y.rows) (b * y.rows)) else None)
+  column_placed zero = refl
+  column_placed (suc j) =
       let k : suc j - 1 ≡ j = omega arith in
       let s = suc-mul j y.rows in
       let size : suc j * y.rows - j * y.rows ≡ y.rows = omega arith in
-      rw (k, size) (column_of _ (take y.rows (drop (j * y.rows) xs)) c (sym (column-laid j) ∙ e))
+      column-laid j ∙ rw (k, size, le-leb 1 (suc j) (omega arith)) (by_mark _ (take y.rows (drop (j * y.rows) xs)))
     where
-      column_of : (mark : Bool) (zs c : List T) → box_of mark zs ≡ Some c → zs ≡ c
-      column_of true zs c e = same_Some zs c e
-      column_of false zs c e = absurd (none-some c e)
+      by_mark : (mark : Bool) (zs : List T) → box_of mark zs ≡ (if mark then Some zs else None)
+      by_mark true zs = refl
+      by_mark false zs = refl

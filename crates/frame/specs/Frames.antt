@@ -1,11 +1,12 @@
 -- What a frame makes of a row of symbols: always a shelf. Assumes nothing.
-use Rattle.std.specs.Prelude.{◌≡◌, ℕ, suc, ◌*◌, ◌≤◌, Bool, true, false, List, [], ◌∷◌, length, take, drop, refl}
+use Rattle.std.specs.Prelude.{◌≡◌, ℕ, suc, ◌*◌, ◌≤◌, ◌<◌, Bool, true, false, List, [], ◌∷◌, length, take, drop, slice_get, slice_set, None, refl}
 use Rattle.std.proofs.Common.{ap, arith, length-drop, length-take}
 use Rattle.std.proofs.Math.Nat.{mul-le-mul_right, suc-mul}
 use Rattle.std.proofs.lemmas.Bool.Decides.{nat_tests}
 use Rattle.std.proofs.lemmas.List.{length-take-le}
-use Rattle.shelf.specs.Meaning.{AllHave, IsShelf, Meaning}
-use Rattle.frame.specs.Layouts.{Layout, boxes_in, cut, laid}
+use Rattle.std.specs.declared.ops.Range.{Range}
+use Rattle.shelf.specs.Meaning.{AllHave, IsShelf, Meaning, has_row, is_out, symbol_at, with_standing, with_symbol}
+use Rattle.frame.specs.Layouts.{Layout, boxes_in, cut, filled, laid}
 use Rattle.frame.specs.declared.Frame.{Frame}
 
 -- the frame as one plain value
@@ -42,3 +43,27 @@ framed_sound f xs =
       short = f.short;
       full = cut_full f.rows (take n f.marks) xs (omega arith);
     }
+
+-- place i holds row a of box b
+pub record Present {T : Type 0} (f : Frame) (xs : List T) (b a i : ℕ) : Type 0 where
+  pub within : i < length xs
+  pub row : has_row (framed f xs) b a ≡ true
+  pub symbol : symbol_at (framed f xs) b a ≡ slice_get xs i
+  pub changed : (x : T) → with_symbol (framed f xs) b a x ≡ framed f (slice_set xs i x)
+
+-- box b is out, or has no row a
+pub record Absent {T : Type 0} (f : Frame) (xs : List T) (b a : ℕ) : Type 0 where
+  pub row : has_row (framed f xs) b a ≡ false
+  pub symbol : symbol_at (framed f xs) b a ≡ None
+
+-- box b has come in, and its column lies in these places: g is the frame that has it
+pub record Opened {T : Type 0} (f g : Frame) (xs : List T) (b : ℕ) (places : Range ℕ) : Type 0 where
+  pub rising : places.start ≤ places.end
+  pub within : places.end ≤ length xs
+  pub out : is_out (framed f xs) b ≡ true
+  pub changed : (x : T) → with_standing (framed f xs) b x ≡ framed g (filled xs places.start places.end x)
+
+-- there is no box b that is out, and all is as it was
+pub record Shut {T : Type 0} (f g : Frame) (xs : List T) (b : ℕ) : Type 0 where
+  pub out : is_out (framed f xs) b ≡ false
+  pub same : framed g xs ≡ framed f xs

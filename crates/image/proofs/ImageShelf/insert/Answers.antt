@@ -1,24 +1,11 @@
-use Rattle.std.proofs.Common.{sym, ap, ◌∙◌, arith}
+use Rattle.std.proofs.Common.{sym, ap, ◌∙◌}
 use Rattle.frame.specs.Frames.{framed}
-use Rattle.frame.proofs.Calls.{inserted, not_inserted}
+use Rattle.frame.proofs.Calls.{not_out}
 use Rattle.image.specs.Triples.{words}
-use Rattle.image.proofs.Triples.{length-words}
 use Rattle.image.proofs.ImageShelf.insert.Goals as goal
 
-pub returns-in_default-clause-answer : goal.returns-in_default-clause-answer
-returns-in_default-clause-answer c = let s = c.args.self.now in sym (not_inserted s.frame (words s.buffer.now) _ c.room-room.ensures c.insert.new.self c.args.b c.insert.ensures.answer c.insert.ensures.after c.in_default.is).0
-
 pub returns-in_default-clause-after : goal.returns-in_default-clause-after
-returns-in_default-clause-after c = let s = c.args.self.now in (not_inserted s.frame (words s.buffer.now) _ c.room-room.ensures c.insert.new.self c.args.b c.insert.ensures.answer c.insert.ensures.after c.in_default.is).1 c.args.x
-
-pub fill-requires-clause-rising : goal.fill-requires-clause-rising
-fill-requires-clause-rising c = let s = c.args.self.now in (inserted s.frame (words s.buffer.now) _ c.room-room.ensures c.insert.new.self c.args.b c.insert.ensures.answer c.insert.ensures.after c.in-Some.places c.in-Some.is).rising
-
-pub fill-requires-clause-within : goal.fill-requires-clause-within
-fill-requires-clause-within c = let s = c.args.self.now in let p = inserted s.frame (words s.buffer.now) _ c.room-room.ensures c.insert.new.self c.args.b c.insert.ensures.answer c.insert.ensures.after c.in-Some.places c.in-Some.is in omega (arith, p.within, length-words s.buffer.now)
-
-pub returns-clause-answer : goal.returns-clause-answer
-returns-clause-answer c = let s = c.args.self.now in sym (inserted s.frame (words s.buffer.now) _ c.room-room.ensures c.insert.new.self c.args.b c.insert.ensures.answer c.insert.ensures.after c.in-Some.places c.in-Some.is).out
-
-pub returns-clause-after : goal.returns-clause-after
-returns-clause-after c = let s = c.args.self.now in ap (framed c.insert.new.self) c.fill.ensures ∙ (inserted s.frame (words s.buffer.now) _ c.room-room.ensures c.insert.new.self c.args.b c.insert.ensures.answer c.insert.ensures.after c.in-Some.places c.in-Some.is).changed c.args.x
+returns-in_default-clause-after c =
+    let s = c.args.self.now in
+    let opened = c.in_default.ensures in
+    ap (λ bytes. framed c.open.new.self.frame (words bytes)) opened.bytes ∙ opened.answer.same ∙ sym (not_out s.frame (words s.buffer.now) c.args.b c.args.x opened.answer.out)
