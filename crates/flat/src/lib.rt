@@ -50,10 +50,9 @@ impl<'a, T: Copy> Flat<'a, T> {
         ensures meaning { ⟦<Flat<'a, T> as Shelf>⟧.meaning result ≡ all_out boxes rows (length buffer.old) }
         ensures lender { ⟦<Flat<'a, T> as Shelf>⟧.buffers result ≡ buffer.entry.ghost_name ∷ [] }
     {
-        let room = buffer.len();
         Flat {
             buffer,
-            frame: Frame::new(boxes, rows, room),
+            frame: Frame::new(boxes, rows),
         }
     }
 

@@ -1,13 +1,13 @@
 -- What the calls of a frame f make of a row of symbols xs, as its callers meet it. Assumes nothing.
-use Rattle.std.proofs.Common.{◌≡◌, ℕ, zero, suc, ◌*◌, ◌≤◌, Bool, true, false, nat_le, if◌then◌else◌, List, ◌∷◌, length, take, drop, replicate, slice_range, Option, MatchOption, ◌-◌, Some, None, is_some, refl, sym, ap, ◌∙◌, arith, inl, inr}
-use Rattle.std.proofs.lemmas.Bool.{cases_Bool, cond-false, cond-true}
+use Rattle.std.proofs.Common.{◌≡◌, ℕ, zero, suc, ◌*◌, ◌≤◌, Bool, true, false, nat_le, if◌then◌else◌, List, ◌∷◌, length, take, drop, replicate, slice_range, Option, MatchOption, ◌-◌, Some, None, is_some, refl, sym, ap, ◌∙◌, subst, arith, inl, inr}
+use Rattle.std.proofs.lemmas.Bool.{cases_Bool, cond-false, cond-true, le-leb}
 use Rattle.std.proofs.lemmas.Bool.Decides.{nat_tests}
 use Rattle.std.proofs.lemmas.Option.{none-some}
 use Rattle.std.specs.declared.ops.Range.{Range}
-use Rattle.shelf.specs.Meaning.{box_count, column, has_row, is_out, is_standing, with_out, with_standing, with_symbol}
+use Rattle.shelf.specs.Meaning.{Meaning, box_count, column, has_row, is_out, is_standing, with_out, with_standing, with_symbol}
 use Rattle.shelf.proofs.Meanings.{symbol_at_refused, with_out_refused, with_standing_refused, with_symbol_refused}
-use Rattle.frame.specs.Frames.{Absent, Opened, Present, Shut, boxes_fit, framed, framed_sound, layout}
-use Rattle.frame.specs.Layouts.{Layout, all_out, boxes_in, cut, filled, is_allowed, is_out_in, laid, new_layout, place_in, room_in, stands_in, with_mark}
+use Rattle.frame.specs.Frames.{Absent, Opened, Present, Shut, layout_fits, framed, framed_sound, layout}
+use Rattle.frame.specs.Layouts.{Keeps, Layout, all_out, boxes_in, cut, filled, fits, is_allowed, is_out_in, laid, place_in, room_in, rows_in, stands_in, with_mark}
 use Rattle.frame.specs.declared.Frame.{Frame}
 use Rattle.frame.proofs.Rows.{box_count-laid, column_placed, has_row-laid, is_out-laid, is_standing-laid, place_within, room, room_within, symbol_at-laid, with_out-standing, with_standing-laid, with_symbol-laid}
 
@@ -19,18 +19,18 @@ cut-all_out l (suc n) (suc k) xs h = ap (λ cs. None ∷ cs) (cut-all_out l n k 
 -- what a frame is told of its row, and what that means
 module _ {T : Type 0} (f : Frame) (xs : List T) where
   pub box_count_told : box_count (framed f xs) ≡ boxes_in (layout f) (length xs)
-  box_count_told = box_count-laid (layout f) xs f.marked
+  box_count_told = box_count-laid (layout f) xs
 
   pub standing_told : (b : ℕ) → is_standing (framed f xs) b ≡ stands_in (layout f) (length xs) b
   standing_told b = is_standing-laid (layout f) xs b
 
   pub out_told : (b : ℕ) → with_out (framed f xs) b ≡ laid (if stands_in (layout f) (length xs) b then with_mark (layout f) b false else layout f) xs
   out_told b = elim (cases_Bool (stands_in (layout f) (length xs) b)) [
-    | inl h ↦ sym (ap (λ y. laid y xs) (cond-true _ _ _ h) ∙ with_out-standing (layout f) xs f.marked b h)
+    | inl h ↦ sym (ap (λ y. laid y xs) (cond-true _ _ _ h) ∙ with_out-standing (layout f) xs b h)
     | inr h ↦ with_out_refused (framed f xs) b (standing_told b ∙ h) ∙ sym (ap (λ y. laid y xs) (cond-false _ _ _ h))
   ]
 
-  pub column_told : (b : ℕ) → column (framed f xs) b ≡ (if stands_in (layout f) (length xs) b then Some (slice_range xs ((b - 1) * f.rows) (b * f.rows)) else None)
+  pub column_told : (b : ℕ) → column (framed f xs) b ≡ (if stands_in (layout f) (length xs) b then Some (slice_range xs ((b - 1) * rows_in (layout f) (length xs)) (b * rows_in (layout f) (length xs))) else None)
   column_told b = column_placed (layout f) xs b
 
   -- what is refused changes nothing
@@ -53,7 +53,7 @@ module _ {T : Type 0} (f : Frame) (xs : List T) (len : ℕ) (size : len ≡ leng
         within = place_within (layout f) xs b a i e;
         row = has_row-laid (layout f) xs b a ∙ ap is_some e;
         symbol = symbol_at-laid (layout f) xs b a i e;
-        changed = λ x. sym (with_symbol-laid (layout f) xs f.marked b a i x e);
+        changed = λ x. sym (with_symbol-laid (layout f) xs b a i x e);
       }
 
   pub opened : (g : Frame) (b : ℕ) (r : Option (Range ℕ)) → r ≡ room_in (layout f) len b → layout g ≡ (if is_out_in (layout f) len b then with_mark (layout f) b true else layout f)
@@ -68,27 +68,28 @@ module _ {T : Type 0} (f : Frame) (xs : List T) (len : ℕ) (size : len ≡ leng
           → MatchOption r (Shut f g xs b) (Opened f g xs b)
       by None e after =
           let h : is_out_in (layout f) (length xs) b ≡ false = no_room (is_out_in (layout f) (length xs) b) _ e in
-          record { out = is_out-laid (layout f) xs f.marked b ∙ h; same = ap (λ y. laid y xs) (after ∙ cond-false _ _ _ h) }
+          record { out = is_out-laid (layout f) xs b ∙ h; same = ap (λ y. laid y xs) (after ∙ cond-false _ _ _ h) }
       by (Some places) e after =
           let out = (room (layout f) xs b places e).out in
           let w = room_within (layout f) xs b places e in
           record {
             rising = w.0;
             within = w.1;
-            out = is_out-laid (layout f) xs f.marked b ∙ out;
-            changed = λ x. sym (ap (λ y. laid y (filled xs places.start places.end x)) (after ∙ cond-true _ _ _ out) ∙ with_standing-laid (layout f) xs f.marked b places x e);
+            out = is_out-laid (layout f) xs b ∙ out;
+            changed = λ x. sym (ap (λ y. laid y (filled xs places.start places.end x)) (after ∙ cond-true _ _ _ out) ∙ with_standing-laid (layout f) xs b places x e);
           }
 
 -- a frame that has just been made
-pub begun_told : {T : Type 0} (n l : ℕ) (xs : List T) → all_out n l (length xs) ≡ laid (new_layout n l (length xs)) xs
+pub begun_told : {T : Type 0} (n l : ℕ) (xs : List T) → all_out n l (length xs) ≡ laid (record { marks = replicate 32 false; boxes = n; rows = l }) xs
 begun_told n l xs = sym (elim (cases_Bool (is_allowed n l (length xs))) [
   | inl h ↦
       let few : n ≤ 32 = grind (arith, nat_tests) in
-      let fits : (if nat_le (n * l) (length xs) then n else 0) ≡ n = grind (arith, nat_tests) in
-      ap (λ y. laid y xs) (cond-true _ _ _ h) ∙ rw (fits, cut-all_out l n 32 xs few) refl ∙ sym (cond-true _ _ _ h)
+      rw (h, le-leb n 32 few, cut-all_out l n 32 xs few) refl
   | inr h ↦
-      let y : Layout = record { marks = replicate 32 false; boxes = 0; rows = 0 } in
-      let fits = boxes_fit y (length xs) in
-      let none : boxes_in y (length xs) ≡ 0 = omega arith in
-      ap (λ y. laid y xs) (cond-false _ _ _ h) ∙ rw none refl ∙ sym (cond-false _ _ _ h)
+      let none : fits (record { marks = replicate 32 false; boxes = n; rows = l }) (length xs) ≡ false = grind (arith, nat_tests) in
+      rw (none, h) refl
 ])
+
+-- what a shelf kept that began as m, and became n
+pub kept_along : {T : Type 0} (m k n : Meaning T) (after : Meaning T → Meaning T) (xs : List T) → k ≡ m → n ≡ after k → Keeps n xs → Keeps (after m) xs
+kept_along m k n after xs e f h = subst (λ j. Keeps j xs) (f ∙ ap after e) h

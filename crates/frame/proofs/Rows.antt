@@ -7,8 +7,8 @@ use Rattle.std.proofs.lemmas.List.{get_or-take, get_or_past, length-take-le}
 use Rattle.std.proofs.lemmas.Option.{cond_some}
 use Rattle.std.specs.declared.ops.Range.{Range}
 use Rattle.shelf.specs.Meaning.{box_count, column, has_row, is_out, is_standing, symbol_at, symbol_of, with_out, with_standing, with_symbol}
-use Rattle.frame.specs.Layouts.{Layout, box_of, boxes_in, end_of, filled, is_marked, is_numbered, is_out_in, laid, place_in, room_in, stands_in, start_of, with_mark}
-use Rattle.frame.specs.Frames.{boxes_fit, length-cut}
+use Rattle.frame.specs.Layouts.{Layout, box_of, boxes_in, end_of, filled, is_marked, is_numbered, is_out_in, laid, place_in, room_in, rows_in, stands_in, start_of, with_mark}
+use Rattle.frame.specs.Frames.{layout_fits, length-cut}
 use Rattle.frame.proofs.Cuts.{cut_in, cut_out, cut_set, in_place-cut, length-filled}
 
 slice_get-take : {T : Type 0} (n : ℕ) (xs : List T) (i : ℕ) → i < n → slice_get (take n xs) i ≡ slice_get xs i
@@ -34,10 +34,13 @@ mark_of_first n i marks = elim (cases_lt i n) [
 ]
 
 module _ {T : Type 0} (y : Layout) (xs : List T) where
-  column-laid : (i : ℕ) → column (laid y xs) (suc i) ≡ box_of (nat_le (suc i) (boxes_in y (length xs)) && slice_index_or y.marks i false) (take y.rows (drop (i * y.rows) xs))
+  abbrev l : ℕ
+  l = rows_in y (length xs)
+
+  column-laid : (i : ℕ) → column (laid y xs) (suc i) ≡ box_of (nat_le (suc i) (boxes_in y (length xs)) && slice_index_or y.marks i false) (take l (drop (i * l) xs))
   column-laid i =
       let n = boxes_in y (length xs) in
-      in_place-cut y.rows i (take n y.marks) xs ∙ ap (λ t. box_of t (take y.rows (drop (i * y.rows) xs))) (mark_of_first n i y.marks)
+      in_place-cut l i (take n y.marks) xs ∙ ap (λ t. box_of t (take l (drop (i * l) xs))) (mark_of_first n i y.marks)
 
   pub is_standing-laid : (b : ℕ) → is_standing (laid y xs) b ≡ stands_in y (length xs) b
   is_standing-laid zero = refl
@@ -45,18 +48,18 @@ module _ {T : Type 0} (y : Layout) (xs : List T) where
       let e : suc i - 1 ≡ i = omega arith in
       ap is_some (column-laid i) ∙ is_some-box_of _ _ ∙ rw (e, le-leb 1 (suc i) (omega arith)) refl
 
-  pub box_count-laid : y.boxes ≤ length y.marks → box_count (laid y xs) ≡ boxes_in y (length xs)
-  box_count-laid marked = let fits = boxes_fit y (length xs) in length-cut y.rows (take (boxes_in y (length xs)) y.marks) xs ∙ length-take-le _ _ (omega arith)
+  pub box_count-laid : box_count (laid y xs) ≡ boxes_in y (length xs)
+  box_count-laid = let fits = layout_fits y (length xs) in length-cut l (take (boxes_in y (length xs)) y.marks) xs ∙ length-take-le _ _ (omega arith)
 
-  pub is_out-laid : y.boxes ≤ length y.marks → (b : ℕ) → is_out (laid y xs) b ≡ is_out_in y (length xs) b
-  is_out-laid marked b = rw (is_standing-laid b, box_count-laid marked) (without (is_numbered y (length xs) b) (is_marked y b))
+  pub is_out-laid : (b : ℕ) → is_out (laid y xs) b ≡ is_out_in y (length xs) b
+  is_out-laid b = rw (is_standing-laid b, box_count-laid) (without (is_numbered y (length xs) b) (is_marked y b))
     where
       without : (s t : Bool) → (s && not (s && t)) ≡ (s && not t)
       without true t = refl
       without false t = refl
 
   pub has_row-laid : (b a : ℕ) → has_row (laid y xs) b a ≡ is_some (place_in y (length xs) b a)
-  has_row-laid b a = rw (is_standing-laid b) (some_if (stands_in y (length xs) b && nat_lt a y.rows) (start_of y b + a))
+  has_row-laid b a = rw (is_standing-laid b) (some_if (stands_in y (length xs) b && nat_lt a l) (start_of l b + a))
     where
       some_if : (t : Bool) (n : ℕ) → t ≡ is_some (if t then Some n else None)
       some_if true n = refl
@@ -74,7 +77,7 @@ module _ {T : Type 0} (y : Layout) (xs : List T) where
       let q = and_parts (nat_le 1 b) _ p.0 in
       record { some = leb-true 1 b q.0; most = leb-true b _ q.1; mark = p.1 }
 
-  column_standing : (i : ℕ) → Standing (suc i) → column (laid y xs) (suc i) ≡ Some (take y.rows (drop (i * y.rows) xs))
+  column_standing : (i : ℕ) → Standing (suc i) → column (laid y xs) (suc i) ≡ Some (take l (drop (i * l) xs))
   column_standing i s =
       let k : suc i - 1 ≡ i = omega arith in
       let m : slice_index_or y.marks i false ≡ true = rw k at s.mark in
@@ -83,22 +86,22 @@ module _ {T : Type 0} (y : Layout) (xs : List T) where
   -- a row of a box that stands, and where it lies
   record Placed (b a i : ℕ) : Type 0 where
     stands : Standing b
-    below : a < y.rows
-    place : i ≡ start_of y b + a
+    below : a < l
+    place : i ≡ start_of l b + a
 
   placed : (b a i : ℕ) → place_in y (length xs) b a ≡ Some i → Placed b a i
   placed b a i e =
-      let p = cond_some (stands_in y (length xs) b && nat_lt a y.rows) (start_of y b + a) i e in
+      let p = cond_some (stands_in y (length xs) b && nat_lt a l) (start_of l b + a) i e in
       let q = and_parts (stands_in y (length xs) b) _ p.0 in
-      record { stands = standing b q.0; below = ltb-true a y.rows q.1; place = sym p.1 }
+      record { stands = standing b q.0; below = ltb-true a l q.1; place = sym p.1 }
 
   -- a box has its room in the row
-  box_within : (b : ℕ) → 1 ≤ b → b ≤ boxes_in y (length xs) → end_of y b ≤ length xs
+  box_within : (b : ℕ) → 1 ≤ b → b ≤ boxes_in y (length xs) → end_of l b ≤ length xs
   box_within b some most =
-      let fits = boxes_fit y (length xs) in
+      let fits = layout_fits y (length xs) in
       let k : suc (b - 1) ≤ boxes_in y (length xs) = omega arith in
-      let room = mul-le-mul_right y.rows k in
-      let s = suc-mul (b - 1) y.rows in
+      let room = mul-le-mul_right l k in
+      let s = suc-mul (b - 1) l in
       omega arith
 
   pub place_within : (b a i : ℕ) → place_in y (length xs) b a ≡ Some i → i < length xs
@@ -113,17 +116,17 @@ module _ {T : Type 0} (y : Layout) (xs : List T) where
       let p = placed (suc j) a i e in
       let k : suc j - 1 ≡ j = omega arith in
       ap (λ o. symbol_of o a) (column_standing j p.stands)
-      ∙ slice_get-take y.rows (drop (j * y.rows) xs) a p.below ∙ slice_get-drop (j * y.rows) xs a ∙ ap (slice_get xs) (sym (rw k at p.place))
+      ∙ slice_get-take l (drop (j * l) xs) a p.below ∙ slice_get-drop (j * l) xs a ∙ ap (slice_get xs) (sym (rw k at p.place))
 
-  pub with_symbol-laid : y.boxes ≤ length y.marks → (b a i : ℕ) (x : T) → place_in y (length xs) b a ≡ Some i → laid y (slice_set xs i x) ≡ with_symbol (laid y xs) b a x
-  with_symbol-laid marked zero a i x e = let p = placed zero a i e in absurd (omega (arith, p.stands.some))
-  with_symbol-laid marked (suc j) a i x e =
+  pub with_symbol-laid : (b a i : ℕ) (x : T) → place_in y (length xs) b a ≡ Some i → laid y (slice_set xs i x) ≡ with_symbol (laid y xs) b a x
+  with_symbol-laid zero a i x e = let p = placed zero a i e in absurd (omega (arith, p.stands.some))
+  with_symbol-laid (suc j) a i x e =
       let p = placed (suc j) a i e in
       let k : suc j - 1 ≡ j = omega arith in
       let n = boxes_in y (length xs) in
-      let fits = boxes_fit y (length xs) in
+      let fits = layout_fits y (length xs) in
       let inside : j < length (take n y.marks) = rw (length-take-le n y.marks (omega arith)) (omega (arith, p.stands.most)) in
-      rw (p.place, k, length-set) (ap (λ cs. record { rows = y.rows; boxes = cs }) (cut_set y.rows j (take n y.marks) xs inside a x p.below))
+      rw (p.place, k, length-set) (ap (λ cs. record { rows = l; boxes = cs }) (cut_set l j (take n y.marks) xs inside a x p.below))
 
   -- a box that is out, and where its column will lie
   pub record Room (b : ℕ) (places : Range ℕ) : Type 0 where
@@ -131,12 +134,12 @@ module _ {T : Type 0} (y : Layout) (xs : List T) where
     some : 1 ≤ b
     most : b ≤ boxes_in y (length xs)
     mark : slice_index_or y.marks (b - 1) false ≡ false
-    first : places.start ≡ start_of y b
-    last : places.end ≡ end_of y b
+    first : places.start ≡ start_of l b
+    last : places.end ≡ end_of l b
 
   pub room : (b : ℕ) (places : Range ℕ) → room_in y (length xs) b ≡ Some places → Room b places
   room b places e =
-      let p = cond_some (is_out_in y (length xs) b) (record { start = start_of y b; end = end_of y b }) places e in
+      let p = cond_some (is_out_in y (length xs) b) (record { start = start_of l b; end = end_of l b }) places e in
       let q = and_parts (is_numbered y (length xs) b) _ p.0 in
       let r = and_parts (nat_le 1 b) _ q.0 in
       record {
@@ -156,40 +159,40 @@ module _ {T : Type 0} (y : Layout) (xs : List T) where
       let t = r.last in
       (omega arith, omega arith)
 
-  pub with_standing-laid : y.boxes ≤ length y.marks → (b : ℕ) (places : Range ℕ) (x : T) → room_in y (length xs) b ≡ Some places
+  pub with_standing-laid : (b : ℕ) (places : Range ℕ) (x : T) → room_in y (length xs) b ≡ Some places
       → laid (with_mark y b true) (filled xs places.start places.end x) ≡ with_standing (laid y xs) b x
-  with_standing-laid marked zero places x e = let r = room zero places e in absurd (omega (arith, r.some))
-  with_standing-laid marked (suc j) places x e =
+  with_standing-laid zero places x e = let r = room zero places e in absurd (omega (arith, r.some))
+  with_standing-laid (suc j) places x e =
       let r = room (suc j) places e in
       let k : suc j - 1 ≡ j = omega arith in
       let n = boxes_in y (length xs) in
-      let fits = boxes_fit y (length xs) in
+      let fits = layout_fits y (length xs) in
       let h = box_within (suc j) r.some r.most in
-      let long : length (filled xs (j * y.rows) (j * y.rows + y.rows) x) ≡ length xs = length-filled xs (j * y.rows) (j * y.rows + y.rows) x (omega arith) (rw k at h) in
+      let long : length (filled xs (j * l) (j * l + l) x) ≡ length xs = length-filled xs (j * l) (j * l + l) x (omega arith) (rw k at h) in
       let inside : j < length (take n y.marks) = rw (length-take-le n y.marks (omega arith)) (omega (arith, r.most)) in
       let mark : slice_index_or (take n y.marks) j false ≡ false = get_or-take n y.marks j false (omega (arith, r.most)) ∙ (rw k at r.mark) in
-      rw (r.first, r.last, k, long, take-set-lt n y.marks j true (omega (arith, r.most)))
-      (ap (λ cs. record { rows = y.rows; boxes = cs }) (cut_in y.rows j (take n y.marks) xs inside x (rw k at h) mark))
+      rw (r.first, r.last, k, long, length-set, take-set-lt n y.marks j true (omega (arith, r.most)))
+      (ap (λ cs. record { rows = l; boxes = cs }) (cut_in l j (take n y.marks) xs inside x (rw k at h) mark))
 
-  pub with_out-standing : y.boxes ≤ length y.marks → (b : ℕ) → stands_in y (length xs) b ≡ true → laid (with_mark y b false) xs ≡ with_out (laid y xs) b
-  with_out-standing marked zero e = let s = standing zero e in absurd (omega (arith, s.some))
-  with_out-standing marked (suc j) e =
+  pub with_out-standing : (b : ℕ) → stands_in y (length xs) b ≡ true → laid (with_mark y b false) xs ≡ with_out (laid y xs) b
+  with_out-standing zero e = let s = standing zero e in absurd (omega (arith, s.some))
+  with_out-standing (suc j) e =
       let s = standing (suc j) e in
       let k : suc j - 1 ≡ j = omega arith in
       let n = boxes_in y (length xs) in
-      let fits = boxes_fit y (length xs) in
+      let fits = layout_fits y (length xs) in
       let inside : j < length (take n y.marks) = rw (length-take-le n y.marks (omega arith)) (omega (arith, s.most)) in
-      rw (k, take-set-lt n y.marks j false (omega (arith, s.most)))
-      (ap (λ cs. record { rows = y.rows; boxes = cs }) (cut_out y.rows j (take n y.marks) xs inside))
+      rw (k, length-set, take-set-lt n y.marks j false (omega (arith, s.most)))
+      (ap (λ cs. record { rows = l; boxes = cs }) (cut_out l j (take n y.marks) xs inside))
 
   -- each column that stands lies in its place
-  pub column_placed : (b : ℕ) → column (laid y xs) b ≡ (if stands_in y (length xs) b then Some (slice_range xs ((b - 1) * y.rows) (b * y.rows)) else None)
+  pub column_placed : (b : ℕ) → column (laid y xs) b ≡ (if stands_in y (length xs) b then Some (slice_range xs ((b - 1) * l) (b * l)) else None)
   column_placed zero = refl
   column_placed (suc j) =
       let k : suc j - 1 ≡ j = omega arith in
-      let s = suc-mul j y.rows in
-      let size : suc j * y.rows - j * y.rows ≡ y.rows = omega arith in
-      column-laid j ∙ rw (k, size, le-leb 1 (suc j) (omega arith)) (by_mark _ (take y.rows (drop (j * y.rows) xs)))
+      let s = suc-mul j l in
+      let size : suc j * l - j * l ≡ l = omega arith in
+      column-laid j ∙ rw (k, size, le-leb 1 (suc j) (omega arith)) (by_mark _ (take l (drop (j * l) xs)))
     where
       by_mark : (mark : Bool) (zs : List T) → box_of mark zs ≡ (if mark then Some zs else None)
       by_mark true zs = refl

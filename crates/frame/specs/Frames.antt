@@ -6,7 +6,7 @@ use Rattle.std.proofs.lemmas.Bool.Decides.{nat_tests}
 use Rattle.std.proofs.lemmas.List.{length-take-le}
 use Rattle.std.specs.declared.ops.Range.{Range}
 use Rattle.shelf.specs.Meaning.{AllHave, IsShelf, Meaning, has_row, is_out, symbol_at, with_standing, with_symbol}
-use Rattle.frame.specs.Layouts.{Layout, boxes_in, cut, filled, laid}
+use Rattle.frame.specs.Layouts.{Layout, boxes_in, cut, filled, laid, rows_in}
 use Rattle.frame.specs.declared.Frame.{Frame}
 
 -- the frame as one plain value
@@ -28,20 +28,29 @@ cut_full l (true ∷ marks) xs h =
     let e = suc-mul (length marks) l in
     (length-take-le l xs (omega arith), cut_full l marks (drop l xs) (simp length-drop (omega arith)))
 
--- the boxes that lie in a row have room there
-pub boxes_fit : (y : Layout) (len : ℕ) → (boxes_in y len ≤ y.boxes) × (boxes_in y len * y.rows ≤ len)
-boxes_fit y len = grind (arith, nat_tests)
+-- what there is of the boxes in a row is a shelf, and has room there
+pub record Fits (y : Layout) (len : ℕ) : Type 0 where
+  pub few : boxes_in y len ≤ 32
+  pub marked : boxes_in y len ≤ length y.marks
+  pub short : rows_in y len ≤ 4096
+  pub room : boxes_in y len * rows_in y len ≤ len
+
+pub layout_fits : (y : Layout) (len : ℕ) → Fits y len
+layout_fits y len = record { few = grind (arith, nat_tests); marked = grind (arith, nat_tests); short = grind (arith, nat_tests); room = grind (arith, nat_tests) }
 
 pub framed_sound : {T : Type 0} (f : Frame) (xs : List T) → IsShelf (framed f xs)
 framed_sound f xs =
     let n = boxes_in (layout f) (length xs) in
-    let fits = boxes_fit (layout f) (length xs) in
+    let l = rows_in (layout f) (length xs) in
+    let fits = layout_fits (layout f) (length xs) in
+    let few = fits.few in
+    let room = fits.room in
     let all : length (take n f.marks) ≤ n = simp length-take (omega arith) in
-    let room = mul-le-mul_right f.rows all in
+    let enough = mul-le-mul_right l all in
     record {
       few = rw length-cut (omega arith);
-      short = f.short;
-      full = cut_full f.rows (take n f.marks) xs (omega arith);
+      short = fits.short;
+      full = cut_full l (take n f.marks) xs (omega arith);
     }
 
 -- place i holds row a of box b

@@ -2,55 +2,64 @@
 // which of them stand.
 #![tactic(auto)]
 
-ghost use Rattle.std.specs.Prelude.{◌≡◌, ℕ, ◌≤◌, false, true, if◌then◌else◌, length};
+ghost use Rattle.std.specs.Prelude.{◌≡◌, false, true, if◌then◌else◌, replicate};
 
 use shelf::Sizes;
 use std::ops::Range;
 
+// What a shelf may have.
+const MOST_BOXES: usize = 32;
+
+const MOST_ROWS: usize = 4096;
+
 #[derive(Drop)]
 pub struct Frame {
-    marks: [bool; 32],
+    marks: [bool; MOST_BOXES],
     boxes: usize,
     rows: usize,
-    ghost few: { boxes ≤ 32 },
-    ghost marked: { boxes ≤ length marks },
-    ghost short: { rows ≤ 4096 },
 }
 
 // A frame does not hold the row of symbols. So each function is told its length,
-// and counts no boxes where it is too short for all of them.
+// and counts no boxes where it is too short for all of them. A fact on the fields
+// would keep this from being asked each time, but a type that holds a `&mut` beside
+// such a fact cannot be a type argument, as a shelf is to a joined one.
 impl Frame {
     ghost use Rattle.frame.specs.Frames.{layout};
-    ghost use Rattle.frame.specs.Layouts.{boxes_in, is_numbered, is_out_in, new_layout, place_in, room_in, stands_in, with_mark};
+    ghost use Rattle.frame.specs.Layouts.{boxes_in, fits, is_numbered, is_out_in, place_in, room_in, rows_in, stands_in, with_mark};
 
-    // All boxes are out; there are none if the sizes are not allowed, or need
-    // more than the room.
-    pub fn new(boxes: usize, rows: usize, room: usize) -> Frame
-        ensures { layout result ≡ new_layout boxes rows room }
+    // All boxes are out.
+    pub fn new(boxes: usize, rows: usize) -> Frame
+        ensures { layout result ≡ record { marks = replicate 32 false; boxes = boxes; rows = rows } }
     {
-        if 1 <= boxes && boxes <= 32 && 1 <= rows && rows <= 4096 && boxes * rows <= room {
-            Frame {
-                marks: [false; 32],
-                boxes,
-                rows,
-            }
-        } else {
-            Frame {
-                marks: [false; 32],
-                boxes: 0,
-                rows: 0,
-            }
+        Frame {
+            marks: [false; MOST_BOXES],
+            boxes,
+            rows,
         }
+    }
+
+    // Whether the sizes are allowed, and there is room for the boxes.
+    fn fits(&self, len: usize) -> bool
+        ensures { result ≡ fits (layout self.now) len }
+    {
+        1 <= self.boxes
+            && self.boxes <= MOST_BOXES
+            && 1 <= self.rows
+            && self.rows <= MOST_ROWS
+            && self.boxes * self.rows <= len
     }
 
     pub fn sizes(&self, len: usize) -> Sizes
         ensures boxes { result.boxes ≡ boxes_in (layout self.now) len }
-        ensures rows { result.rows ≡ (layout self.now).rows }
+        ensures rows { result.rows ≡ rows_in (layout self.now) len }
     {
-        let fits = self.boxes * self.rows <= len;
-        Sizes {
-            boxes: if fits { self.boxes } else { 0 },
-            rows: self.rows,
+        if self.fits(len) {
+            Sizes {
+                boxes: self.boxes,
+                rows: self.rows,
+            }
+        } else {
+            Sizes { boxes: 0, rows: 0 }
         }
     }
 

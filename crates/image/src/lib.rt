@@ -86,10 +86,9 @@ impl<'a> Image<'a> {
         ensures meaning { ⟦<Image<'a> as Shelf>⟧.meaning result ≡ all_out boxes rows (length buffer.old / 3) }
         ensures lender { ⟦<Image<'a> as Shelf>⟧.buffers result ≡ buffer.entry.ghost_name ∷ [] }
     {
-        let room = buffer.len() / BYTES;
         Image {
             buffer,
-            frame: Frame::new(boxes, rows, room),
+            frame: Frame::new(boxes, rows),
         }
     }
 

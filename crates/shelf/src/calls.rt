@@ -16,7 +16,7 @@ pub enum Call<T> {
 }
 
 // What a shelf answers.
-#[derive(Clone, Copy)]
+#[derive(Clone, Copy, Debug, PartialEq, Eq)]
 pub enum Answer<T> {
     Size(Sizes),
     Told(bool),

@@ -10,7 +10,7 @@ mod calls;
 pub use calls::{Answer, Call, perform, perform_all, perform_on_both};
 
 // How many boxes a shelf has, and how many rows each box.
-#[derive(Clone, Copy)]
+#[derive(Clone, Copy, Debug, PartialEq, Eq)]
 pub struct Sizes {
     pub boxes: usize,
     pub rows: usize,
