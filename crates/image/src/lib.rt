@@ -5,6 +5,7 @@ ghost use Rattle.std.specs.Prelude.{◌≡◌, ℕ, ◌/◌, ◌<◌, ◌≤◌,
 ghost use Rattle.frame.specs.Frames.{Absent, Opened, Present, Shut};
 ghost use Rattle.frame.specs.Layouts.{Keeps, all_out, filled};
 ghost use Rattle.image.specs.Held.{held, held_sound, lent};
+ghost use Rattle.prime.specs.Words.{word_number};
 ghost use Rattle.image.specs.Triples.{number_at, with_number, word_at, words};
 ghost use Rattle.shelf.specs.Calls.{after_all};
 
@@ -62,7 +63,8 @@ fn read(s: &[u8], i: usize) -> Words
 #[tactic(auto, using(crate::proofs::Triples::length_words, crate::proofs::Triples::word_written))]
 fn put(s: &mut [u8], i: usize, x: Words)
     requires { i < length (words s.old) }
-    ensures { words s.new ≡ slice_set (words s.old) i x }
+    ensures number { s.new ≡ with_number s.old i (word_number x) }
+    ensures words { words s.new ≡ slice_set (words s.old) i x }
 {
     write_number(s, i, x.to_number());
 }
