@@ -4,6 +4,8 @@ use Rattle.std.proofs.lemmas.Bool.{cases_Bool, cond-false, cond-true, le-leb}
 use Rattle.std.proofs.lemmas.Bool.Decides.{nat_tests}
 use Rattle.std.proofs.lemmas.Option.{none-some}
 use Rattle.std.specs.declared.ops.Range.{Range}
+use Rattle.shelf.specs.Calls.{after_all}
+use Rattle.shelf.specs.declared.calls.Call.{Call}
 use Rattle.shelf.specs.Meaning.{Meaning, box_count, column, has_row, is_out, is_standing, with_out, with_standing, with_symbol}
 use Rattle.shelf.proofs.Meanings.{symbol_at_refused, with_out_refused, with_standing_refused, with_symbol_refused}
 use Rattle.frame.specs.Frames.{Absent, Opened, Present, Shut, layout_fits, framed, framed_sound, layout}
@@ -90,6 +92,6 @@ begun_told n l xs = sym (elim (cases_Bool (is_allowed n l (length xs))) [
       rw (none, h) refl
 ])
 
--- what a shelf kept that began as m, and became n
-pub kept_along : {T : Type 0} (m k n : Meaning T) (after : Meaning T → Meaning T) (xs : List T) → k ≡ m → n ≡ after k → Keeps n xs → Keeps (after m) xs
-kept_along m k n after xs e f h = subst (λ j. Keeps j xs) (f ∙ ap after e) h
+-- what is kept of a shelf k after calls is kept of m, if the two are the same
+pub kept_after : {T : Type 0} (m k n : Meaning T) (calls : List (Call T)) (xs : List T) → k ≡ m → n ≡ after_all k calls → Keeps n xs → Keeps (after_all m calls) xs
+kept_after m k n calls xs e f h = subst (λ j. Keeps j xs) (f ∙ ap (λ j. after_all j calls) e) h
