@@ -35,16 +35,19 @@ is_numbered y len b = nat_le 1 b && nat_le b (boxes_in y len)
 abbrev pub is_marked : Layout → ℕ → Bool
 is_marked y b = slice_index_or y.marks (b - 1) false
 
+-- box b stands
 abbrev pub stands_in : Layout → ℕ → ℕ → Bool
 stands_in y len b = is_numbered y len b && is_marked y b
 
+-- box b is one that is out
 abbrev pub is_out_in : Layout → ℕ → ℕ → Bool
 is_out_in y len b = is_numbered y len b && not (is_marked y b)
 
--- where the column of box b begins, and where it ends
+-- where the column of box b begins
 abbrev pub start_of : Layout → ℕ → ℕ
 start_of y b = (b - 1) * y.rows
 
+-- where it ends
 abbrev pub end_of : Layout → ℕ → ℕ
 end_of y b = start_of y b + y.rows
 
@@ -72,7 +75,7 @@ is_allowed n l room = nat_le 1 n && (nat_le n 32 && (nat_le 1 l && (nat_le l 409
 abbrev pub new_layout : ℕ → ℕ → ℕ → Layout
 new_layout n l room = if is_allowed n l room then record { marks = replicate 32 false; boxes = n; rows = l } else record { marks = replicate 32 false; boxes = 0; rows = 0 }
 
--- what it means
+-- what either means
 abbrev pub all_out : {T : Type 0} → ℕ → ℕ → ℕ → Meaning T
 all_out n l room = if is_allowed n l room then record { rows = l; boxes = replicate n None } else record { rows = 0; boxes = [] }
 
