@@ -13,9 +13,11 @@ use Rattle.frame.specs.declared.Frame.{Frame}
 abbrev pub layout : Frame → Layout
 layout f = record { marks = f.marks; boxes = f.boxes; rows = f.rows }
 
+-- the shelf in the row xs
 abbrev pub framed : {T : Type 0} → Frame → List T → Meaning T
 framed f xs = laid (layout f) xs
 
+-- there are as many boxes as marks
 pub length-cut : {T : Type 0} (l : ℕ) (marks : List Bool) (xs : List T) → length (cut l marks xs) ≡ length marks
 length-cut l [] xs = refl
 length-cut l (mark ∷ marks) xs = ap suc (length-cut l marks (drop l xs))

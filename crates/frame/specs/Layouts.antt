@@ -46,16 +46,19 @@ is_numbered y len b = nat_le 1 b && nat_le b (boxes_in y len)
 abbrev pub is_marked : Layout → ℕ → Bool
 is_marked y b = slice_index_or y.marks (b - 1) false
 
+-- box b stands
 abbrev pub stands_in : Layout → ℕ → ℕ → Bool
 stands_in y len b = is_numbered y len b && is_marked y b
 
+-- box b is one that is out
 abbrev pub is_out_in : Layout → ℕ → ℕ → Bool
 is_out_in y len b = is_numbered y len b && not (is_marked y b)
 
--- where the column of box b begins, and where it ends, at l rows each
+-- where the column of box b begins, at l rows each
 abbrev pub start_of : ℕ → ℕ → ℕ
 start_of l b = (b - 1) * l
 
+-- where it ends
 abbrev pub end_of : ℕ → ℕ → ℕ
 end_of l b = start_of l b + l
 

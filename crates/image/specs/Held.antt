@@ -6,9 +6,11 @@ use Rattle.prime.specs.declared.words.Words.{Words}
 use Rattle.image.specs.Triples.{words}
 use Rattle.image.specs.declared.Image.{Image}
 
+-- the words of the buffer, as its frame divides them
 abbrev pub held : Image → Meaning Words
 held s = framed s.frame (words s.buffer.now)
 
+-- the buffer, by the name of its reference
 abbrev pub lent : Image → List ℕ
 lent s = s.buffer.ghost_name ∷ []
 
