@@ -4,4 +4,12 @@
 #[cfg(test)]
 mod flats;
 #[cfg(test)]
+mod images;
+#[cfg(test)]
+mod joins;
+#[cfg(test)]
+mod stretches;
+#[cfg(test)]
 mod tables;
+#[cfg(test)]
+mod words;

@@ -1,0 +1,64 @@
+// Rows of a box copied out and written.
+use flat::Flat;
+use image::Image;
+use prime::words::Words;
+use shelf::Shelf;
+use shelf_rows::{read_rows, write_rows};
+
+#[test]
+fn written_and_read(rt: HostRuntime) {
+    let mut buffer = [0u8; 8];
+    {
+        let mut shelf = Flat::new(&mut buffer, 2, 4);
+        assert!(&rt; shelf.insert(2, 9));
+        assert!(&rt; write_rows(&mut shelf, 2, 1, &[5, 6]));
+        let mut out = [0; 3];
+        assert!(&rt; read_rows(&mut shelf, 2, 1, &mut out));
+        assert_eq!(&rt; out, [5, 6, 9]);
+        assert!(&rt; write_rows(&mut shelf, 2, 3, &[8]));
+        assert!(&rt; write_rows(&mut shelf, 2, 4, &[]));
+    }
+    assert_eq!(&rt; buffer, [0, 0, 0, 0, 9, 5, 6, 8]);
+}
+
+// A box that is out, no box, rows that do not fit: nothing changes.
+#[test]
+fn refused(rt: HostRuntime) {
+    let mut buffer = [0u8; 8];
+    {
+        let mut shelf = Flat::new(&mut buffer, 2, 4);
+        assert!(&rt; shelf.insert(2, 9));
+        for (b, from) in [
+            (0, 0),
+            (1, 0),
+            (3, 0),
+            (2, 2),
+            (2, 4),
+            (2, 5),
+            (2, usize::MAX),
+            (usize::MAX, 0),
+        ] {
+            let mut out = [1, 2, 3];
+            assert!(&rt; !read_rows(&mut shelf, b, from, &mut out));
+            assert_eq!(&rt; out, [1, 2, 3]);
+            assert!(&rt; !write_rows(&mut shelf, b, from, &out));
+        }
+        assert!(&rt; !write_rows(&mut shelf, 2, 5, &[]));
+        assert!(&rt; !read_rows(&mut shelf, 1, 0, &mut []));
+    }
+    assert_eq!(&rt; buffer, [0, 0, 0, 0, 9, 9, 9, 9]);
+}
+
+#[test]
+fn in_bytes(rt: HostRuntime) {
+    let mut buffer = [0u8; 9];
+    {
+        let mut shelf = Image::new(&mut buffer, 1, 3);
+        assert!(&rt; shelf.insert(1, Words::Low(1)));
+        assert!(&rt; write_rows(&mut shelf, 1, 1, &[Words::Top, Words::Low(258)]));
+        let mut out = [Words::Low(0); 2];
+        assert!(&rt; read_rows(&mut shelf, 1, 0, &mut out));
+        assert_eq!(&rt; out, [Words::Low(1), Words::Top]);
+    }
+    assert_eq!(&rt; buffer, [0, 0, 1, 1, 0, 0, 0, 1, 2]);
+}
