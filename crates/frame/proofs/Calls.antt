@@ -1,5 +1,5 @@
 -- What the calls of a frame f make of a row of symbols xs, as its callers meet it. Assumes nothing.
-use Rattle.std.proofs.Common.{◌≡◌, ℕ, zero, suc, ◌*◌, ◌≤◌, Bool, true, false, nat_le, if◌then◌else◌, List, ◌∷◌, length, take, drop, replicate, slice_range, Option, MatchOption, ◌-◌, Some, None, is_some, refl, sym, ap, ◌∙◌, subst, arith, inl, inr}
+use Rattle.std.proofs.Common.{◌≡◌, ℕ, zero, suc, ◌*◌, ◌≤◌, Bool, true, false, if◌then◌else◌, List, ◌∷◌, length, take, drop, replicate, slice_range, Option, MatchOption, ◌-◌, Some, None, is_some, refl, sym, ap, ◌∙◌, subst, arith, inl, inr}
 use Rattle.std.proofs.lemmas.Bool.{cases_Bool, cond-false, cond-true, le-leb}
 use Rattle.std.proofs.lemmas.Bool.Decides.{nat_tests}
 use Rattle.std.proofs.lemmas.Option.{none-some}
@@ -8,8 +8,8 @@ use Rattle.shelf.specs.Calls.{after_all}
 use Rattle.shelf.specs.declared.calls.Call.{Call}
 use Rattle.shelf.specs.Meaning.{Meaning, box_count, column, has_row, is_out, is_standing, with_out, with_standing, with_symbol}
 use Rattle.shelf.proofs.Meanings.{symbol_at_refused, with_out_refused, with_standing_refused, with_symbol_refused}
-use Rattle.frame.specs.Frames.{Absent, Opened, Present, Shut, layout_fits, framed, framed_sound, layout}
-use Rattle.frame.specs.Layouts.{Keeps, Layout, all_out, boxes_in, cut, filled, fits, is_allowed, is_out_in, laid, place_in, room_in, rows_in, stands_in, with_mark}
+use Rattle.frame.specs.Frames.{Absent, Opened, Present, Shut, framed, framed_sound, layout}
+use Rattle.frame.specs.Layouts.{Keeps, all_out, boxes_in, cut, filled, fits, is_allowed, is_out_in, laid, place_in, room_in, rows_in, stands_in, with_mark}
 use Rattle.frame.specs.declared.Frame.{Frame}
 use Rattle.frame.proofs.Rows.{box_count-laid, column_placed, has_row-laid, is_out-laid, is_standing-laid, place_within, room, room_within, symbol_at-laid, with_out-standing, with_standing-laid, with_symbol-laid}
 

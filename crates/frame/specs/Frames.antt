@@ -34,11 +34,12 @@ cut_full l (true ∷ marks) xs h =
 pub record Fits (y : Layout) (len : ℕ) : Type 0 where
   pub few : boxes_in y len ≤ 32
   pub marked : boxes_in y len ≤ length y.marks
+  pub some : rows_in y len ≡ 0 → boxes_in y len ≡ 0
   pub short : rows_in y len ≤ 4096
   pub room : boxes_in y len * rows_in y len ≤ len
 
 pub layout_fits : (y : Layout) (len : ℕ) → Fits y len
-layout_fits y len = record { few = grind (arith, nat_tests); marked = grind (arith, nat_tests); short = grind (arith, nat_tests); room = grind (arith, nat_tests) }
+layout_fits y len = record { few = grind (arith, nat_tests); marked = grind (arith, nat_tests); some = λ e. grind (arith, nat_tests); short = grind (arith, nat_tests); room = grind (arith, nat_tests) }
 
 pub framed_sound : {T : Type 0} (f : Frame) (xs : List T) → IsShelf (framed f xs)
 framed_sound f xs =
@@ -51,6 +52,7 @@ framed_sound f xs =
     let enough = mul-le-mul_right l all in
     record {
       few = rw length-cut (omega arith);
+      some = λ e. let none = fits.some e in rw length-cut (omega arith);
       short = fits.short;
       full = cut_full l (take n f.marks) xs (omega arith);
     }

@@ -1,10 +1,11 @@
 -- A joined shelf, seen from the side on which a box is found. Assumes nothing.
-use Rattle.std.proofs.Common.{◌≡◌, ℕ, List, replicate, Option, sym, ap, ◌∙◌, arith}
+use Rattle.std.proofs.Common.{◌≡◌, ℕ, List, [], ◌∷◌, length, replicate, Option, refl, sym, ap, ◌∙◌, arith}
 use Rattle.std.proofs.lemmas.Grind.{common_steps}
-use Rattle.shelf.specs.Meaning.{Meaning, column, change, is_box, unless_standing, with_standing}
+use Rattle.shelf.specs.Meaning.{IsShelf, Meaning, column, change, is_box, unless_standing, with_standing}
 use Rattle.shelf.proofs.Places.{length-with_box, in_box-left, in_box-right, with_box_past, with_box-left, with_box-right}
 use Rattle.joined.specs.declared.Side.TheVariants.{First, Second}
 use Rattle.joined.specs.Joining.{joined}
+use Rattle.joined.specs.Laws.{first_two, last_two}
 use Rattle.joined.specs.Sides.{side_of}
 
 -- a box of the first shelf
@@ -49,3 +50,17 @@ module _ {T : Type 0} (m k : Meaning T) (b d : ℕ) (e : Second d ≡ side_of m 
 
 -- what a question or a change on one side makes of the whole
 pub ruleset found = (first-column, first-rows, first-is_box, first-change, second-column, second-rows, second-is_box, second-change, second-past)
+
+-- a shelf has no boxes without rows
+no_boxes_without_rows : {T : Type 0} (m : Meaning T) → IsShelf m → m.rows ≡ 0 → m.boxes ≡ []
+no_boxes_without_rows m s e = by m.boxes (s.some e)
+  where
+    by : {C : Type 0} (cs : List C) → length cs ≡ 0 → cs ≡ []
+    by [] h = refl
+    by (c ∷ cs) h = absurd (omega arith)
+
+pub associates : {T : Type 0} (m k j : Meaning T) → IsShelf m → IsShelf k → IsShelf j → first_two m k j ≡ last_two m k j
+associates m k j s t u =
+    let a : m.rows ≡ 0 → m.boxes ≡ [] = no_boxes_without_rows m s in
+    let b : j.rows ≡ 0 → j.boxes ≡ [] = no_boxes_without_rows j u in
+    grind (arith, common_steps)

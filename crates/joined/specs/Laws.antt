@@ -1,6 +1,6 @@
 -- What joining makes of the boxes of two shelves, and of three, bracketed either way. Assumes nothing.
-use Rattle.std.specs.Prelude.{◌≡◌, ◌≢◌, ℕ, ◌+◌, ◌-◌, ◌≤◌, ◌<◌, true, false, [], ◌++◌}
-use Rattle.shelf.specs.Meaning.{Meaning, box_count, column}
+use Rattle.std.specs.Prelude.{◌≡◌, ◌≢◌, ℕ, ◌+◌, ◌-◌, ◌≤◌, ◌<◌, true, ◌++◌}
+use Rattle.shelf.specs.Meaning.{IsShelf, Meaning, box_count, column}
 use Rattle.joined.specs.Joining.{is_joinable, joined, no_boxes}
 
 -- the boxes of m, and then those of k, renumbered from the count of m on
@@ -28,23 +28,10 @@ last_two m k j = joined m (joined k j)
 abbrev pub all_three : {T : Type 0} → Meaning T → Meaning T → Meaning T → Meaning T
 all_three m k j = record { rows = m.rows; boxes = m.boxes ++ (k.boxes ++ j.boxes) }
 
--- the boxes have rows, or there are none
-abbrev pub HasRows : {T : Type 0} → Meaning T → Type 0
-HasRows m = m.rows ≡ 0 → m.boxes ≡ []
-
--- neither inner joining is refused, or the shelf left outside has no boxes without rows
-pub record IsRegroupable {T : Type 0} (m k j : Meaning T) : Type 0 where
-  pub first : is_joinable k j ≡ false → HasRows m
-  pub last : is_joinable m k ≡ false → HasRows j
-
--- Three shelves that go together are their boxes in a row, and too many are none, bracketed either way. The two sides are
--- the same where neither inner joining is refused; where one is, if the shelf left outside has no boxes without rows; and
--- where the outer shelves are the same. In every other case they differ, for a shelf has at most 32 boxes.
+-- Three that go together are their boxes in a row, and too many are none, bracketed either way. So the two sides are the
+-- same where neither inner joining is refused. On shelves, which have no boxes without rows, they are always the same.
 pub record Associates (T : Type 0) : Type 0 where
   pub together : (m k j : Meaning T) → m.rows ≡ k.rows → k.rows ≡ j.rows → box_count m + box_count k + box_count j ≤ 32 → (first_two m k j ≡ all_three m k j) × (last_two m k j ≡ all_three m k j)
   pub too_many : (m k j : Meaning T) → is_joinable m k ≡ true → is_joinable k j ≡ true → 32 < box_count m + box_count k + box_count j → (first_two m k j ≡ no_boxes) × (last_two m k j ≡ no_boxes)
   pub neither_refused : (m k j : Meaning T) → is_joinable m k ≡ true → is_joinable k j ≡ true → first_two m k j ≡ last_two m k j
-  pub regroupable : (m k j : Meaning T) → IsRegroupable m k j → first_two m k j ≡ last_two m k j
-  pub outer_same : (m k : Meaning T) → first_two m k m ≡ last_two m k m
-  pub first_needed : (m k j : Meaning T) → is_joinable k j ≡ false → m.rows ≡ 0 → 1 ≤ box_count m → box_count m ≤ 32 → m ≢ j → first_two m k j ≢ last_two m k j
-  pub last_needed : (m k j : Meaning T) → is_joinable m k ≡ false → j.rows ≡ 0 → 1 ≤ box_count j → box_count j ≤ 32 → m ≢ j → first_two m k j ≢ last_two m k j
+  pub shelves : (m k j : Meaning T) → IsShelf m → IsShelf k → IsShelf j → first_two m k j ≡ last_two m k j

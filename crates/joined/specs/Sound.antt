@@ -1,6 +1,6 @@
 -- A joined shelf keeps to what every shelf keeps to. Assumes nothing.
 use Rattle.std.specs.Prelude.{◌≡◌, ℕ, Bool, true, false, List, [], ◌∷◌, ◌++◌, Option, Some, None}
-use Rattle.std.proofs.Common.{refl, sym, subst, arith, tests, length-append}
+use Rattle.std.proofs.Common.{refl, sym, ◌∙◌, subst, arith, tests, length-append}
 use Rattle.shelf.specs.Meaning.{AllHave, IsShelf, Meaning}
 use Rattle.joined.specs.Joining.{is_joinable, both, no_boxes, joined}
 
@@ -19,8 +19,9 @@ joined_sound {T} m k s t = by (is_joinable m k) refl
         let n = length-append m.boxes k.boxes in
         let w : IsShelf (both m k) = record {
           few = grind (arith, tests);
+          some = λ z. let a = s.some z in let b = t.some (sym l ∙ z) in omega arith;
           short = s.short;
           full = all_have-append m.rows m.boxes k.boxes s.full (subst (λ r. AllHave r k.boxes) (sym l) t.full);
         } in rw e w
     by false e =
-        let w : IsShelf {T = T} no_boxes = record { few = omega arith; short = omega arith; full = tt } in rw e w
+        let w : IsShelf {T = T} no_boxes = record { few = omega arith; some = λ z. refl; short = omega arith; full = tt } in rw e w

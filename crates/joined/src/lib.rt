@@ -4,7 +4,7 @@
 ghost use Rattle.std.specs.Prelude.{◌≡◌, ℕ, ◌+◌, ◌++◌, ◌&&◌, ◌==◌, nat_le};
 ghost use Rattle.shelf.specs.Meaning.{box_count, has_row, is_out, is_standing, symbol_at, with_out, with_standing, with_symbol};
 ghost use Rattle.joined.specs.Joining.{joined};
-ghost use Rattle.joined.specs.Laws.{Associates, IsRegroupable, Joins};
+ghost use Rattle.joined.specs.Laws.{Associates, Joins};
 ghost use Rattle.joined.specs.Parts.{apart, change_apart, parts};
 ghost use Rattle.joined.specs.Sides.{side_of};
 ghost use Rattle.joined.specs.Sound.{joined_sound};
@@ -81,14 +81,11 @@ impl<A: Shelf, B: Shelf<Symbol = A::Symbol>> Joined<A, B> {
 }
 
 impl<A: Shelf, B: Shelf<Symbol = A::Symbol>, C: Shelf<Symbol = A::Symbol>> Joined<Joined<A, B>, C> {
-    // The same three shelves, with the last two joined first: it means the
-    // same, but for boxes without rows beside two that do not go together.
+    // The same three shelves, with the last two joined first.
     pub fn regroup(self) -> Joined<A, Joined<B, C>>
         ensures first { (parts result).0 ≡ (parts (parts self).0).0 }
         ensures last { parts (parts result).1 ≡ ((parts (parts self).0).1, (parts self).1) }
-        ensures same { let front = apart A.meaning B.meaning (parts self).0 in
-            IsRegroupable front.0 front.1 (C.meaning (parts self).1)
-            → ⟦<Joined<A, Joined<B, C>> as Shelf>⟧.meaning result
+        ensures same { ⟦<Joined<A, Joined<B, C>> as Shelf>⟧.meaning result
             ≡ ⟦<Joined<Joined<A, B>, C> as Shelf>⟧.meaning self }
         ensures lender { ⟦<Joined<A, Joined<B, C>> as Shelf>⟧.buffers result
             ≡ ⟦<Joined<Joined<A, B>, C> as Shelf>⟧.buffers self }
@@ -219,8 +216,7 @@ pub fn shelves_join<T: Copy>()
 {}
 
 // A theorem on shelves of any symbols: a joined shelf of joined shelves means
-// the same, whether the first two or the last two are joined first, unless a
-// shelf of boxes without rows stands outside two that do not go together.
+// the same, whether the first two or the last two are joined first.
 pub fn joining_associates<T: Copy>()
     ensures { Associates T }
 {}

@@ -88,8 +88,9 @@ AllHave l [] = Unit {0}
 AllHave l (None ∷ cs) = AllHave l cs
 AllHave l (Some xs ∷ cs) = (length xs ≡ l) × AllHave l cs
 
--- what every shelf keeps to
+-- what every shelf keeps to; there are no boxes without rows
 pub record IsShelf {T : Type 0} (m : Meaning T) : Type 0 where
   pub few : box_count m ≤ 32
+  pub some : m.rows ≡ 0 → box_count m ≡ 0
   pub short : m.rows ≤ 4096
   pub full : AllHave m.rows m.boxes

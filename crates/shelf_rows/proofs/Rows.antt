@@ -145,6 +145,7 @@ module _ {T : Type 0} where
   pub still_shelf : (m : Meaning T) (b from : ℕ) (xs : List T) → IsShelf m → IsShelf (with_rows m b from xs)
   still_shelf m b from xs s = record {
     few = omega (arith, s.few, box_count_stays m b from xs);
+    some = λ z. omega (arith, s.some z, box_count_stays m b from xs);
     short = s.short;
     full = full_box m.rows m.boxes b from xs s.full;
   }

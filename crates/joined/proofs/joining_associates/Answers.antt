@@ -1,5 +1,6 @@
 use Rattle.std.proofs.Common.{arith}
 use Rattle.std.proofs.lemmas.Grind.{common_steps}
+use Rattle.joined.proofs.Found.{associates}
 use Rattle.joined.proofs.joining_associates.Goals as goal
 
 pub returns : goal.returns
@@ -7,8 +8,5 @@ returns g c = record {
   together = λ m k j l r h. (grind (arith, common_steps), grind (arith, common_steps));
   too_many = λ m k j e f h. (grind (arith, common_steps), grind (arith, common_steps));
   neither_refused = λ m k j e f. grind (arith, common_steps);
-  regroupable = λ m k j p. grind (arith, common_steps);
-  outer_same = λ m k. grind (arith, common_steps);
-  first_needed = λ m k j f r l h n e. grind (arith, common_steps);
-  last_needed = λ m k j e r l h n f. grind (arith, common_steps);
+  shelves = associates;
 }
