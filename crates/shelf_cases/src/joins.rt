@@ -1,8 +1,9 @@
 // Joined shelves: their sizes, and three in a row.
-use crate::tables::{answers, fetched, inserted, sizes, stands, stored, withdrawn};
+use crate::tables::{answers, fetched, inserted, sizes, stored, withdrawn};
 use flat::Flat;
 use joined::Joined;
 use shelf::Shelf;
+use std::process::Abort;
 
 fn sizes_of(first: (usize, usize), second: (usize, usize)) -> (usize, usize) {
     let mut left = [0u8; 64];
@@ -28,6 +29,32 @@ fn allowed_sizes(rt: HostRuntime) {
     }
 }
 
+// Three boxes that are put in, and one symbol stored.
+fn filled<S: Shelf<Symbol = u8>>(rt: &impl Abort, shelf: &mut S) {
+    let table = [
+        sizes(3, 2),
+        inserted(1, 1, true),
+        inserted(2, 2, true),
+        inserted(3, 3, true),
+        inserted(4, 4, false),
+        stored(3, 1, 33, true),
+    ];
+    answers(rt, shelf, &table);
+}
+
+// The same three boxes, of which the second is taken out.
+fn parted<S: Shelf<Symbol = u8>>(rt: &impl Abort, shelf: &mut S) {
+    let table = [
+        sizes(3, 2),
+        fetched(1, 1, Some(1)),
+        fetched(2, 1, Some(2)),
+        fetched(3, 1, Some(33)),
+        stored(2, 0, 22, true),
+        withdrawn(2, true),
+    ];
+    answers(rt, shelf, &table);
+}
+
 // The first two joined first, then the last two, then each by itself again.
 #[test]
 fn three_in_a_row(rt: HostRuntime) {
@@ -37,30 +64,13 @@ fn three_in_a_row(rt: HostRuntime) {
     {
         let pair = Joined::new(Flat::new(&mut first, 1, 2), Flat::new(&mut second, 1, 2));
         let mut shelf = Joined::new(pair, Flat::new(&mut third, 1, 2));
-        let before = [
-            sizes(3, 2),
-            inserted(1, 1, true),
-            inserted(2, 2, true),
-            inserted(3, 3, true),
-            inserted(4, 4, false),
-            stored(3, 1, 33, true),
-        ];
-        answers(&rt, &mut shelf, &before);
+        filled(&rt, &mut shelf);
         let mut shelf = shelf.regroup();
-        let after = [
-            sizes(3, 2),
-            fetched(1, 1, Some(1)),
-            fetched(2, 1, Some(2)),
-            fetched(3, 1, Some(33)),
-            stored(2, 0, 22, true),
-            withdrawn(2, true),
-        ];
-        answers(&rt, &mut shelf, &after);
-        let (mut left, right) = shelf.into_parts();
+        parted(&rt, &mut shelf);
+        let (_, right) = shelf.into_parts();
         let (mut middle, mut last) = right.into_parts();
-        answers(&rt, &mut left, &[fetched(1, 0, Some(1))]);
-        answers(&rt, &mut middle, &[stands(1, false)]);
-        answers(&rt, &mut last, &[fetched(1, 1, Some(33))]);
+        assert!(&rt; !middle.stands(1));
+        assert_eq!(&rt; last.fetch(1, 1), Some(33));
     }
     assert_eq!(&rt; (first, second, third), ([1, 1], [22, 2], [3, 33]));
 }
