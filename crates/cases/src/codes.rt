@@ -249,12 +249,20 @@ fn refusals(rt: HostRuntime) {
 #[test]
 fn refusal_texts(rt: HostRuntime) -> Result<(), Fail> {
     let texts = [
+        (Refusal::NotSetUp, "the vault is not set up"),
         (Refusal::Size, "the size is outside 1 to 6"),
         (Refusal::Marks, "the field has too few marks"),
+        (Refusal::Shape, "the shelf has other boxes or rows"),
         (Refusal::Length, "a buffer has the wrong length"),
         (Refusal::NoBox, "there is no box of that number"),
+        (Refusal::NoRow, "there is no row of that number"),
+        (Refusal::Out, "the box is out"),
+        (Refusal::Standing, "the box stands"),
         (Refusal::ManyOut, "three or more boxes are out"),
-        (Refusal::Parity, "the box is a parity box"),
+        (
+            Refusal::NotRenewable,
+            "the box is a parity box, or a second box is out",
+        ),
         (
             Refusal::Helper,
             "the helper is the lost box, or has been heard already",

@@ -3,27 +3,37 @@ use Rattle.std.specs.Prelude.{ℕ, codes, ◌*◌, Bool, not, ◌||◌, List, []
 use Rattle.std.specs.List.{list_any}
 use Rattle.field.specs.Symbols.{Symbols}
 use Rattle.refusal.specs.declared.Refusal.{Refusal}
-use Rattle.refusal.specs.declared.Refusal.TheVariants.{Size, Marks, Length, NoBox, ManyOut, Parity, Helper, Unheard}
+use Rattle.refusal.specs.declared.Refusal.TheVariants.{NotSetUp, Size, Marks, Shape, Length, NoBox, NoRow, Out, Standing, ManyOut, NotRenewable, Helper, Unheard}
 
 -- the number of each refusal
 abbrev pub number : Refusal → ℕ
+number NotSetUp = 1
 number Size = 2
 number Marks = 3
+number Shape = 4
 number Length = 5
 number NoBox = 6
+number NoRow = 7
+number Out = 8
+number Standing = 9
 number ManyOut = 10
-number Parity = 11
+number NotRenewable = 11
 number Helper = 12
 number Unheard = 13
 
 -- the text that each is printed as
 abbrev pub text : Refusal → List ℕ
+text NotSetUp = codes "the vault is not set up"
 text Size = codes "the size is outside 1 to 6"
 text Marks = codes "the field has too few marks"
+text Shape = codes "the shelf has other boxes or rows"
 text Length = codes "a buffer has the wrong length"
 text NoBox = codes "there is no box of that number"
+text NoRow = codes "there is no row of that number"
+text Out = codes "the box is out"
+text Standing = codes "the box stands"
 text ManyOut = codes "three or more boxes are out"
-text Parity = codes "the box is a parity box"
+text NotRenewable = codes "the box is a parity box, or a second box is out"
 text Helper = codes "the helper is the lost box, or has been heard already"
 text Unheard = codes "a helper has not been heard yet"
 
@@ -65,7 +75,7 @@ no_box n b = where_holds (nat_lt b 1 || nat_lt n b) NoBox
 
 -- not one of the data boxes 1 to n
 abbrev pub parity_box : ℕ → ℕ → Reason
-parity_box n b = where_holds (nat_lt n b) Parity
+parity_box n b = where_holds (nat_lt n b) NotRenewable
 
 -- the lost box, or a helper that has been heard already
 abbrev pub no_helper : ℕ → ℕ → Bool → Reason

@@ -2,7 +2,7 @@
 #![tactic(auto)]
 
 ghost use Rattle.std.specs.Prelude.{◌≡◌, ℕ, ◌*◌, ◌≤◌, ◌<◌, ◌||◌, nat_lt, Some};
-ghost use Rattle.refusal.specs.Refusals.{any_wrong, earliest as first, few_marks as too_few_marks, no_box, no_helper, number as number_of, parity_box, refusal, text, unheard, wrong_lengths as wrong_length, wrong_size};
+ghost use Rattle.refusal.specs.Refusals.{any_wrong, earliest as first, few_marks as too_few_marks, no_box, no_helper, number as number_of, parity_box, refusal, text, unheard, where_holds, wrong_lengths as wrong_length, wrong_size};
 
 use field::Sums;
 use std::error::Error;
@@ -10,18 +10,28 @@ use std::fmt;
 
 #[derive(Clone, Copy, Debug, PartialEq, Eq)]
 pub enum Refusal {
+    // The vault is not set up.
+    NotSetUp = 1,
     // m is outside 1 to 6.
     Size = 2,
     // The field has fewer than 2m marks.
     Marks = 3,
+    // The shelf has not the boxes and rows that are wanted.
+    Shape = 4,
     // A buffer's length is wrong.
     Length = 5,
     // There is no box of that number.
     NoBox = 6,
+    // There is no row of that number.
+    NoRow = 7,
+    // The box is out.
+    Out = 8,
+    // The box stands, and one that is out is wanted.
+    Standing = 9,
     // Three or more boxes are out.
     ManyOut = 10,
-    // A data box is wanted, and the box is a parity box.
-    Parity = 11,
+    // The box is a parity box, or a second box is out, so halves do not renew it.
+    NotRenewable = 11,
     // The helper is the lost box, or has been heard already.
     Helper = 12,
     // A helper has not been heard yet.
@@ -42,12 +52,17 @@ impl fmt::Display for Refusal {
 
     fn fmt<W: fmt::Write>(&self, f: &mut fmt::Formatter<W>) -> fmt::Result {
         f.write_str(match self {
+            Refusal::NotSetUp => "the vault is not set up",
             Refusal::Size => "the size is outside 1 to 6",
             Refusal::Marks => "the field has too few marks",
+            Refusal::Shape => "the shelf has other boxes or rows",
             Refusal::Length => "a buffer has the wrong length",
             Refusal::NoBox => "there is no box of that number",
+            Refusal::NoRow => "there is no row of that number",
+            Refusal::Out => "the box is out",
+            Refusal::Standing => "the box stands",
             Refusal::ManyOut => "three or more boxes are out",
-            Refusal::Parity => "the box is a parity box",
+            Refusal::NotRenewable => "the box is a parity box, or a second box is out",
             Refusal::Helper => "the helper is the lost box, or has been heard already",
             Refusal::Unheard => "a helper has not been heard yet",
         })
@@ -65,6 +80,16 @@ pub fn earliest(reasons: &[Option<Refusal>]) -> Result<(), Refusal>
         if let Some(why) = reason {
             return Err(*why);
         }
+    }
+    Ok(())
+}
+
+// Refuses where a test holds.
+pub fn refuse_if(fits: bool, why: Refusal) -> Result<(), Refusal>
+    ensures { refusal result ≡ where_holds fits why }
+{
+    if fits {
+        return Err(why);
     }
     Ok(())
 }
@@ -137,7 +162,7 @@ pub fn holding_data(n: usize, b: usize) -> Result<(), Refusal>
     ensures { refusal result ≡ parity_box n b }
 {
     if n < b {
-        return Err(Refusal::Parity);
+        return Err(Refusal::NotRenewable);
     }
     Ok(())
 }
