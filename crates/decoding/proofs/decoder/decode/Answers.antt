@@ -1,7 +1,8 @@
 use Rattle.std.proofs.Common.{◌^◌, subst}
 use Rattle.code.specs.Codes.{full}
 use Rattle.code.specs.Contents.{at, parts}
-use Rattle.decoding.specs.Missing.{KeptStanding, stands}
+use Rattle.missing.specs.Missing.{stands}
+use Rattle.decoding.specs.Missing.{KeptStanding}
 use Rattle.decoding.proofs.Fills.{kept_of}
 use Rattle.decoding.proofs.decoder.decode.Goals as goal
 
@@ -13,4 +14,4 @@ returns-clause-kept g c =
     let before = c.args.file.now in
     let after = c.fill_data.new.file in
     subst (λ k. KeptStanding (full Y k) s (parts Y v (2 ^ k) before) (parts Y v (2 ^ k) after)) c.in_ok-cabinet.ensures.size
-    (kept_of (full Y c.in_ok-cabinet.cabinet.size.m) s _ _ (at Y v c.args.first.now) (at Y v c.args.second.now) c.in_ok-fill_data.ensures.file)
+    (kept_of (full Y c.in_ok-cabinet.cabinet.size.m) s _ _ (at Y v c.args.first.now) (at Y v c.args.second.now) c.in_ok-missing.ensures.file)

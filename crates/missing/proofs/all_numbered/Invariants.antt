@@ -1,6 +1,6 @@
 use Rattle.std.proofs.Common.{◌≡◌, drop}
-use Rattle.decoding.specs.Missing.{wrong_boxes}
-use Rattle.decoding.proofs.missing.all_numbered.Given as goal
+use Rattle.missing.specs.Missing.{wrong_boxes}
+use Rattle.missing.proofs.all_numbered.Given as goal
 
 -- none so far is wrong
 abbrev pub invariant-loop-b : goal.invariant-loop-b

@@ -1,6 +1,6 @@
 use Rattle.std.proofs.Common.{◌-◌, ◌≤◌}
-use Rattle.decoding.specs.Missing.{AllStand, stands}
-use Rattle.decoding.proofs.missing.lowest_out.Given as goal
+use Rattle.missing.specs.Missing.{AllStand, stands}
+use Rattle.missing.proofs.lowest_out.Given as goal
 
 abbrev pub invariant-loop-b : goal.invariant-loop-b
 invariant-loop-b l = (l.from ≤ l.b) × (l.b ≤ l.n) × AllStand (stands l.out) l.from l.b

@@ -4,9 +4,9 @@ use Rattle.std.proofs.lemmas.Bool.{cases_lt, cases_order, cases_eq, cond-true, c
 use Rattle.code.specs.Standing.{standing}
 use Rattle.code.proofs.Sums.{if_same, if_other}
 use Rattle.refusal.specs.declared.Refusal.TheVariants.{ManyOut}
-use Rattle.decoding.specs.Missing.{AllStand, LowestOut, Found, aside, many_out, stands}
-use Rattle.decoding.specs.declared.missing.Missing.{Missing}
-use Rattle.decoding.specs.declared.missing.Missing.TheVariants.{Nothing, One, Two}
+use Rattle.missing.specs.Missing.{AllStand, LowestOut, Found, aside, many_out, stands}
+use Rattle.missing.specs.declared.Missing.{Missing}
+use Rattle.missing.specs.declared.Missing.TheVariants.{Nothing, One, Two}
 
 module _ (s : ℕ → Bool) where
   one_stands : (b : ℕ) → s b ≡ true → standing s (suc b) ≡ suc (standing s b)

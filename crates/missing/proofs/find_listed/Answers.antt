@@ -1,7 +1,7 @@
 use Rattle.std.proofs.Common.{arith}
-use Rattle.decoding.specs.Missing.{stands}
-use Rattle.decoding.proofs.Counts.{three_out, none_count, one_count, two_count, few_out, are_many}
-use Rattle.decoding.proofs.missing.find.Goals as goal
+use Rattle.missing.specs.Missing.{stands}
+use Rattle.missing.proofs.Counts.{three_out, none_count, one_count, two_count, few_out, are_many}
+use Rattle.missing.proofs.find_listed.Goals as goal
 
 pub returns-in_default-clause-answer : goal.returns-in_default-clause-answer
 returns-in_default-clause-answer c = let out = c.args.out.now in few_out c.args.n out (omega (arith, none_count (stands out) c.args.n c.in_default.ensures))
