@@ -1,9 +1,18 @@
 -- Why the calls on a stripe decline, beyond the reasons of every call. Assumes nothing.
-use Rattle.std.specs.Prelude.{ℕ, not}
+use Rattle.std.specs.Prelude.{ℕ, zero, suc, Bool, false, not, ◌&&◌, ◌||◌}
 use Rattle.refusal.specs.Refusals.{Reason, where_holds}
-use Rattle.refusal.specs.declared.Refusal.TheVariants.{Out}
+use Rattle.refusal.specs.declared.Refusal.TheVariants.{ManyOut, Out}
 use Rattle.shelf.specs.Meaning.{Meaning, is_standing}
 
 -- box b does not stand
 abbrev pub box_out : {T : Type 0} → Meaning T → ℕ → Reason
 box_out s b = where_holds (not (is_standing s b)) Out
+
+-- of the boxes in the places below n, one that is asked for does not stand
+abbrev pub some_out : (ℕ → Bool) → (ℕ → Bool) → ℕ → Bool
+some_out asked stands zero = false
+some_out asked stands (suc b) = some_out asked stands b || (asked b && not (stands b))
+
+-- one of them is out
+abbrev pub one_out : (ℕ → Bool) → (ℕ → Bool) → ℕ → Reason
+one_out asked stands n = where_holds (some_out asked stands n) ManyOut
