@@ -1,1 +1,2 @@
 mod Images
+pub mod Rewrites

@@ -23,13 +23,7 @@ fn image_symbol<F: Sums>(cabinet: &Cabinet<F>, b: usize, column: &[F], a: usize)
 }
 
 // What the data box in place b adds to the symbol in row a of a parity column.
-fn share_symbol<F: Sums>(
-    cabinet: &Cabinet<F>,
-    which: Parity,
-    b: usize,
-    column: &[F],
-    a: usize,
-) -> F
+fn share_symbol<F: Sums>(cabinet: &Cabinet<F>, which: Parity, b: usize, column: &[F], a: usize) -> F
     requires rows { length column.now ≡ 2 ^ cabinet.now.size.m }
     requires inside { a < 2 ^ cabinet.now.size.m }
     ensures { F.value result ≡ share which (full F.symbols cabinet.now.size.m) b (at F.symbols F.value column.now) a }

@@ -9,7 +9,7 @@ ghost use Rattle.decoding.specs.Steps.{Replaced};
 ghost use Rattle.missing.specs.Missing.{Found, are_boxes as boxes_of, no_boxes, present};
 ghost use Rattle.refusal.specs.Refusals.{earliest, refusal, wrong_lengths};
 ghost use Rattle.stripe.specs.Stripes.{StripeFile, has_stripe, held, no_stripe, stands};
-ghost use Rattle.stripe_file.specs.Reasons.{one_out};
+ghost use Rattle.stripe_file.specs.Reasons.{other_out};
 
 use crate::search::{find, other_out};
 use decoding::fill;
@@ -96,7 +96,7 @@ pub fn read_without<F: Quotients, S: Shelf<Symbol = F>>(
     missing: Missing,
     file: &mut [F],
 ) -> Result<(), Refusal>
-    ensures answer { let m = stripe.now.cabinet.size.m in let s = S.meaning shelf.old in refusal result ≡ earliest (no_stripe m stripe.now.from s ∷ wrong_lengths ((length file.old, 3 * m * 2 ^ m) ∷ []) ∷ no_boxes (3 * m + 2) missing ∷ one_out (present missing) (stands s) (3 * m + 2) ∷ []) }
+    ensures answer { let m = stripe.now.cabinet.size.m in let s = S.meaning shelf.old in refusal result ≡ earliest (no_stripe m stripe.now.from s ∷ wrong_lengths ((length file.old, 3 * m * 2 ^ m) ∷ []) ∷ no_boxes (3 * m + 2) missing ∷ other_out (3 * m + 2) missing (stands s) ∷ []) }
     ensures file { let m = stripe.now.cabinet.size.m in let columns = parts F.symbols F.value (2 ^ m) in MatchResult result (λ _. FileOf (full F.symbols m) (present missing) (held F.symbols F.value m stripe.now.from (S.meaning shelf.old)) (columns file.new)) (λ _. file.new ≡ file.old) }
     ensures stays { S.meaning shelf.new ≡ S.meaning shelf.old }
     ensures lender { S.buffers shelf.new ≡ S.buffers shelf.old }
