@@ -119,5 +119,7 @@ module _ {A : Type 0} (c : Code A) where
 
   -- each data box that stands is one of the first that do
   pub kept_of : (s : ℕ → Bool) (f g : File c) (first second : Column c) → FileOf c s (held c f first second) g → KeptStanding c s f g
-  kept_of s f g first second of b l e a k =
-      sym (ap (λ C. C a) (column_data c g b l)) ∙ of.has b (omega arith) (e, omega (arith, most_below s b)) a k ∙ ap (λ C. C a) (held_data f first second b l)
+  kept_of s f g first second of = record {
+    each = λ b l e a k.
+        sym (ap (λ C. C a) (column_data c g b l)) ∙ of.has b (omega arith) (e, omega (arith, most_below s b)) a k ∙ ap (λ C. C a) (held_data f first second b l);
+  }
