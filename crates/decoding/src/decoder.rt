@@ -60,6 +60,7 @@ fn fill_data<F: Quotients>(
     requires second_rows { length second.now ≡ 2 ^ cabinet.now.size.m }
     ensures answer { refusal result ≡ many_out (3 * cabinet.now.size.m + 2) out.now }
     ensures missing { IfOk result (Found (stands out.now) (3 * cabinet.now.size.m + 2)) }
+    ensures kept { let m = cabinet.now.size.m in let columns = parts F.symbols F.value (2 ^ m) in IfOk result (λ _. KeptStanding (full F.symbols m) (stands out.now) (columns file.old) (columns file.new)) }
     ensures file { let m = cabinet.now.size.m in let columns = parts F.symbols F.value (2 ^ m) in let c = full F.symbols m in MatchResult result (λ _. FileOf c (stands out.now) (held c (columns file.old) (at F.symbols F.value first.now) (at F.symbols F.value second.now)) (columns file.new)) (λ _. file.new ≡ file.old) }
 {
     // By the code's laws there is exactly one such file.

@@ -6,7 +6,7 @@ ghost use Rattle.code.specs.Laws.{HasColumns};
 ghost use Rattle.code.specs.Standing.{FileOf};
 ghost use Rattle.missing.specs.Missing.{are_boxes, aside, no_boxes, present};
 ghost use Rattle.refusal.specs.Refusals.{earliest, few_marks, refusal, wrong_lengths, wrong_size};
-ghost use Rattle.decoding.specs.Missing.{Sourced};
+ghost use Rattle.decoding.specs.Missing.{FilledIn, Sourced};
 ghost use Rattle.decoding.specs.Steps.{ByBoth, ByFirst, BySecond};
 
 use crate::within::{solve_within, take_others, take_within, undo_within};
@@ -76,7 +76,7 @@ pub(crate) fn fill_missing<F: Quotients>(cabinet: &Cabinet<F>, missing: Missing,
 fn fill_in<F: Quotients>(cabinet: &Cabinet<F>, missing: Missing, file: &mut [F])
     requires whole { let m = cabinet.now.size.m in length file.old ≡ 3 * m * 2 ^ m }
     requires boxes { are_boxes (3 * cabinet.now.size.m + 2) missing ≡ true }
-    ensures { let m = cabinet.now.size.m in let columns = parts F.symbols F.value (2 ^ m) in let c = full F.symbols m in (g : ℕ → ℕ → F.symbols.Symbol) → Sourced c missing g (columns file.old) → FileOf c (present missing) g (columns file.new) }
+    ensures { let m = cabinet.now.size.m in let columns = parts F.symbols F.value (2 ^ m) in let c = full F.symbols m in FilledIn c missing (columns file.old) (columns file.new) }
 {
     // By the code's laws there is exactly one such file.
     code_stands::<F>();
@@ -90,7 +90,7 @@ fn fill_in<F: Quotients>(cabinet: &Cabinet<F>, missing: Missing, file: &mut [F])
 // marks, a length or boxes that do not fit.
 pub fn fill<F: Quotients>(m: usize, missing: Missing, file: &mut [F]) -> Result<(), Refusal>
     ensures answer { refusal result ≡ earliest (wrong_size m ∷ few_marks F.symbols m ∷ wrong_lengths ((length file.old, 3 * m * 2 ^ m) ∷ []) ∷ no_boxes (3 * m + 2) missing ∷ []) }
-    ensures file { let columns = parts F.symbols F.value (2 ^ m) in let c = full F.symbols m in MatchResult result (λ _. (g : ℕ → ℕ → F.symbols.Symbol) → Sourced c missing g (columns file.old) → FileOf c (present missing) g (columns file.new)) (λ _. file.new ≡ file.old) }
+    ensures file { let columns = parts F.symbols F.value (2 ^ m) in let c = full F.symbols m in MatchResult result (λ _. FilledIn c missing (columns file.old) (columns file.new)) (λ _. file.new ≡ file.old) }
 {
     let cabinet = Cabinet::new(m)?;
     let boxes = cabinet.size.boxes();
