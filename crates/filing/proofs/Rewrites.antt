@@ -1,5 +1,5 @@
 -- What writing a column of a file to a box of a stripe leads to. Assumes nothing.
-use Rattle.std.proofs.Common.{◌≡◌, ◌≢◌, ℕ, suc, ◌+◌, ◌^◌, ◌<◌, ◌≤◌, Bool, true, false, not, ◌&&◌, ◌||◌, ◌==◌, ◌*◌, nat_le, nat_lt, List, [], ◌∷◌, ◌++◌, map, length, slice_set, slice_index_or, Option, Some, None, refl, sym, ap, ap₂, ◌∙◌, subst, inl, inr, ◌⊎◌, add-one, arith, tests, true≢false}
+use Rattle.std.proofs.Common.{◌≡◌, ◌≢◌, ℕ, suc, ◌+◌, ◌^◌, ◌<◌, ◌≤◌, Bool, true, false, ◌&&◌, ◌||◌, ◌==◌, nat_lt, List, [], ◌∷◌, ◌++◌, map, length, slice_set, slice_index_or, Option, Some, None, refl, sym, ap, ap₂, ◌∙◌, subst, inl, inr, ◌⊎◌, add-one, arith, tests, true≢false}
 use Rattle.std.proofs.lemmas.Bool.{cases_eq, cases_lt}
 use Rattle.std.proofs.lemmas.Bool.Decides.{nat_tests}
 use Rattle.std.proofs.lemmas.List.{get_or_append_left, get_or-append-add, length-append, length-map, map-append, take_all}
@@ -7,21 +7,14 @@ use Rattle.std.proofs.Math.Seq.{take-append_seam}
 use Rattle.field.specs.Symbols.{Symbols}
 use Rattle.code.specs.Codes.{File, column, full, Alike}
 use Rattle.code.specs.Contents.{Holds, at}
-use Rattle.refusal.specs.Refusals.{where_holds}
-use Rattle.refusal.specs.declared.Refusal.{Refusal}
 use Rattle.shelf.specs.Meaning.{IsShelf, Meaning, box_count, column as box_column, is_standing, symbol_at, symbol_of, with_row, with_symbol}
 use Rattle.shelf.proofs.Meanings.{change-same}
 use Rattle.shelf_rows.specs.Rows.{has_rows, overwritten, rows_at, rows_of, with_rows, with_stretch}
 use Rattle.shelf_rows.proofs.Columns.{overwritten-more, overwritten_none}
-use Rattle.shelf_rows.proofs.Rows.{box_count_stays, changed_twice, column_stays, column_there, read_back, row_stays, standing_stays, still_shelf}
+use Rattle.shelf_rows.proofs.Rows.{box_count_stays, changed_twice, column_stays, column_there, read_back, row_stays, standing_stays}
 use Rattle.stripe.specs.Stripes.{OnlyStripe, has_stripe, held, stands}
 use Rattle.stripe_file.proofs.Loads.{stripe_rows}
 use Rattle.filing.specs.Rewriting.{Rewritten}
-
--- what a call that was not declined has asked for holds
-pub asked_for : (t : Bool) (why : Refusal) → None ≡ where_holds (not t) why → t ≡ true
-asked_for true why e = refl
-asked_for false why e = absurd (grind arith)
 
 module _ {T : Type 0} (s : Meaning T) (b from : ℕ) where
   none_added : with_rows s b from [] ≡ s
@@ -109,9 +102,6 @@ module _ (Y : Symbols) {T : Type 0} (v : T → Y.Symbol) (m from : ℕ) (f : Fil
     pub box_others : (d : ℕ) → suc b ≢ d → box_column s1 d ≡ box_column s d
     box_others d n = ap (λ k. box_column k d) w.written ∙ column_stays s (suc b) from w.symbols d n
 
-    pub box_shelf : IsShelf s1
-    box_shelf = subst (λ k. IsShelf k) (sym w.written) (still_shelf s (suc b) from w.symbols i)
-
     box_elsewhere : (d a : ℕ) → (a < from) ⊎ (from + 2 ^ m ≤ a) → symbol_at s1 d a ≡ symbol_at s d a
     box_elsewhere d a h = elim (cases_eq (suc b) d) [
       | inl e ↦
@@ -132,15 +122,7 @@ module _ (Y : Symbols) {T : Type 0} (v : T → Y.Symbol) (m from : ℕ) (f : Fil
   abbrev All : (ℕ → Bool) → Meaning T → Meaning T → Type 0
   All p = Rewritten Y v m from f p
 
-  -- only which boxes are asked for counts
-  pub rewritten_like : (p q : ℕ → Bool) (s s1 : Meaning T) → ((d : ℕ) → q d ≡ p d) → All p s s1 → All q s s1
-  rewritten_like p q s s1 like r = record {
-    only = r.only;
-    holds = λ b e. r.holds b (sym (like b) ∙ e);
-    others = λ b e. r.others b (sym (like b) ∙ e);
-  }
-
-  -- a box that is written, and one that is out and left as it is
+  -- a box that is written, if it stands
   abbrev pub only_box : ℕ → Meaning T → ℕ → Bool
   only_box b s d = d == b && stands s d
 
@@ -154,16 +136,6 @@ module _ (Y : Symbols) {T : Type 0} (v : T → Y.Symbol) (m from : ℕ) (f : Fil
       | inr n ↦ box_others b s s1 i there stand w (suc d) (λ h. n (omega arith))
     ];
   }
-
-  pub box_kept : (b : ℕ) (s s1 : Meaning T) → stands s b ≡ false → s1 ≡ s → All (only_box b s) s s1
-  box_kept b s s1 out e = record {
-    only = record { boxes = ap (λ k. box_count k) e; rows = ap (λ k. k.rows) e; stand = λ d. ap (λ k. is_standing k d) e; elsewhere = λ d a h. ap (λ k. symbol_at k d a) e };
-    holds = λ d h. absurd (none d h);
-    others = λ d h. ap (λ k. box_column k (suc d)) e;
-  }
-    where
-      none : (d : ℕ) → only_box b s d ≡ true → ⊥
-      none d h = let same : d ≡ b = grind (arith, nat_tests) in let out' : stands s d ≡ false = ap (stands s) same ∙ out in grind (arith, nat_tests)
 
   -- some boxes, and then others
   pub rewritten_then : (p q r : ℕ → Bool) (s s1 s2 : Meaning T) → ((d : ℕ) → r d ≡ (p d || q d)) → All p s s1 → All q s1 s2 → All r s s2
@@ -189,9 +161,6 @@ module _ (Y : Symbols) {T : Type 0} (v : T → Y.Symbol) (m from : ℕ) (f : Fil
       by : (d a : ℕ) → a < 2 ^ m → (p d || q d) ≡ true → (t : Bool) → q d ≡ t → held Y v m from s2 d a ≡ column (full Y m) f d a
       by d a l e true h = two.holds d h a l
       by d a l e false h = ap (λ o. at Y v (rows_of o from (2 ^ m)) a) (two.others d h) ∙ one.holds d (first (p d) (ap (λ t. p d || t) (sym h) ∙ e)) a l
-
-  pub stripe_stays : (p : ℕ → Bool) (s s1 : Meaning T) → All p s s1 → has_stripe m from s1 ≡ has_stripe m from s
-  stripe_stays p s s1 r = ap₂ (λ n k. (n == 3 * m + 2) && nat_le (from + 2 ^ m) k) r.only.boxes r.only.rows
 
   -- box after box: those in the places below b that stand are written, and then the next if it stands
   abbrev pub Below : ℕ → Meaning T → Meaning T → Type 0
