@@ -1,10 +1,10 @@
 -- What putting boxes in and writing their columns leads to. Assumes nothing.
-use Rattle.std.proofs.Common.{◌≡◌, ◌≢◌, ℕ, suc, ◌+◌, ◌*◌, ◌<◌, ◌⊎◌, Bool, true, false, not, ◌==◌, List, [], ◌∷◌, Some, None, is_some, refl, sym, ap, ap₂, ◌∙◌, subst, inl, inr, add-one, arith, tests}
+use Rattle.std.proofs.Common.{◌≡◌, ◌≢◌, ℕ, suc, ◌+◌, ◌*◌, ◌<◌, Bool, true, false, not, ◌==◌, List, [], ◌∷◌, Some, None, is_some, option_map, refl, sym, ap, ap₂, ◌∙◌, subst, add-one, arith, tests}
 use Rattle.std.proofs.lemmas.Bool.Decides.{nat_tests}
 use Rattle.field.specs.Symbols.{Symbols}
 use Rattle.code.specs.Codes.{File, full}
 use Rattle.code.specs.Standing.{standing}
-use Rattle.missing.specs.Missing.{Found, are_boxes, count, present}
+use Rattle.missing.specs.Missing.{Found, count, present}
 use Rattle.missing.specs.declared.Missing.{Missing}
 use Rattle.missing.specs.declared.Missing.TheVariants.{Nothing, One, Two}
 use Rattle.missing.proofs.Counts.{none_count, one_count, two_count}
@@ -12,12 +12,11 @@ use Rattle.missing.proofs.Presence.{present_found}
 use Rattle.refusal.specs.Refusals.{Reason, earliest, where_holds}
 use Rattle.refusal.specs.declared.Refusal.{Refusal}
 use Rattle.refusal.specs.declared.Refusal.TheVariants.{Out}
-use Rattle.shelf.specs.Meaning.{Meaning, box_count, is_out, symbol_of, with_standing}
+use Rattle.shelf.specs.Meaning.{Meaning, box_count, is_out, with_standing}
 use Rattle.shelf.specs.Laws.{Inserted, ShelfLaws}
 use Rattle.shelf.proofs.Meanings.{standing_inside}
 use Rattle.stripe.specs.Stripes.{has_stripe, stands}
 use Rattle.stripe_file.specs.Reasons.{listed_out, some_out}
-use Rattle.stripe_file.proofs.Searches.{all_there}
 use Rattle.filing.specs.Restoring.{HoldsZero, PutIn, Restored}
 use Rattle.filing.specs.Rewriting.{Rewritten}
 
@@ -52,55 +51,9 @@ module _ (Y : Symbols) {T : Type 0} (v : T → Y.Symbol) where
         boxes = i.sizes.boxes;
         rows = i.sizes.rows;
         stand = λ d h. let same : d ≡ b = grind (arith, nat_tests) in ap (stands (with_standing s (suc b) x)) same ∙ i.here out;
-        zero = λ d a h l. let same : d ≡ b = grind (arith, nat_tests) in subst (λ k. HoldsZero Y v (with_standing s (suc b) x) k a) (sym same) (x, i.filled out a l, none);
+        zero = λ d a h l. let same : d ≡ b = grind (arith, nat_tests) in subst (λ k. HoldsZero Y v (with_standing s (suc b) x) k a) (sym same) (ap (option_map v) (i.filled out a l) ∙ ap Some none);
         others = λ d h. let n : d ≢ b = grind (arith, nat_tests) in i.others (suc d) (λ k. n (omega arith));
       }
-
-  -- two boxes are put in, one after the other
-  module _ (missing : Missing) (x y : ℕ) (s s1 : Meaning T) (is : missing ≡ Two x y) (one : PutIn Y v (λ d. d == x) s s1) where
-    pub second_out : are_boxes (box_count s) missing ≡ true → ((b : ℕ) → present missing b ≡ false → is_out s (suc b) ≡ true) → is_out s1 (suc y) ≡ true
-    second_out boxes out =
-        let rising : are_boxes (box_count s) (Two x y) ≡ true = ap (are_boxes (box_count s)) (sym is) ∙ boxes in
-        let apart : (y == x) ≡ false = grind (arith, nat_tests) in
-        let out_y : is_out s (suc y) ≡ true = out y (ap (λ k. present k y) is ∙ listed) in
-        let same : stands s1 y ≡ stands s y = ap is_some (one.others y apart) in
-        let count : box_count s1 ≡ box_count s = one.boxes in
-        grind (arith, tests)
-      where
-        listed : present (Two x y) y ≡ false
-        listed = grind (arith, nat_tests)
-
-    pub both_in : (s2 : Meaning T) → PutIn Y v (λ d. d == y) s1 s2 → PutIn Y v (λ b. not (present missing b)) s s2
-    both_in s2 two = subst (λ k. PutIn Y v (λ b. not (present k b)) s s2) (sym is) done
-      where
-        by : (d : ℕ) → (t : Bool) → (d == y) ≡ t → not (present (Two x y) d) ≡ true → (t ≡ true) ⊎ ((t ≡ false) × ((d == x) ≡ true))
-        by d true e h = inl refl
-        by d false e h = inr (refl, grind (arith, nat_tests))
-
-        done : PutIn Y v (λ b. not (present (Two x y) b)) s s2
-        done = record {
-          boxes = two.boxes ∙ one.boxes;
-          rows = two.rows ∙ one.rows;
-          stand = λ d h. elim (by d (d == y) refl h) [
-            | inl e ↦ two.stand d e
-            | inr e ↦ ap is_some (two.others d e.0) ∙ one.stand d e.1
-          ];
-          zero = λ d a h l. elim (by d (d == y) refl h) [
-            | inl e ↦ two.zero d a e (omega (arith, one.rows))
-            | inr e ↦ let z = one.zero d a e.1 l in (z.0, ap (λ o. symbol_of o a) (two.others d e.0) ∙ z.1, z.2)
-          ];
-          others = λ d h. let ny : (d == y) ≡ false = grind (arith, nat_tests) in let nx : (d == x) ≡ false = grind (arith, nat_tests) in two.others d ny ∙ one.others d nx;
-        }
-
--- where none of the boxes listed was found to be out, they stand
-pub listed_there : {T : Type 0} (missing : Missing) (s1 s2 : Meaning T) (boxes n : ℕ) → s2 ≡ s1 → boxes ≡ n → (t : Bool) (why : Refusal) → None ≡ where_holds t why → t ≡ some_out (λ b. not (present missing b)) (stands s1) (boxes + 2)
-    → (b : ℕ) → b < n + 2 → present missing b ≡ false → stands s2 b ≡ true
-listed_there missing s1 s2 boxes n e eb t why none is b l out =
-    ap (λ k. stands k b) e ∙ all_there (λ b. not (present missing b)) (stands s1) (boxes + 2) (sym is ∙ not_refused t why none) b (omega arith) (ap not out)
-  where
-    not_refused : (t : Bool) (why : Refusal) → None ≡ where_holds t why → t ≡ false
-    not_refused true why e = absurd (grind arith)
-    not_refused false why e = refl
 
 -- what was asked for and what was not declined
 pub none_listed : {T : Type 0} (missing : Missing) (s s1 : Meaning T) (boxes n : ℕ) → s1 ≡ s → boxes ≡ n → (t : Bool) → None ≡ where_holds t Out → t ≡ some_out (λ b. not (present missing b)) (stands s1) (boxes + 2)
@@ -116,7 +69,7 @@ module _ (Y : Symbols) {T : Type 0} (v : T → Y.Symbol) (m from : ℕ) (f : Fil
     rows = wrote.only.rows ∙ one.rows;
     stand = λ b l. wrote.only.stand (suc b) ∙ by b l (stands s b) refl;
     holds = λ b l out. wrote.holds b (listed b l out);
-    elsewhere = λ b a l out la h. let z = one.zero b a (listed b l out) la in (z.0, wrote.only.elsewhere (suc b) a h ∙ z.1, z.2);
+    elsewhere = λ b a l out la h. ap (option_map v) (wrote.only.elsewhere (suc b) a h) ∙ one.zero b a (listed b l out) la;
     others = λ b h. let l : b < box_count s = omega (arith, (standing_inside s (suc b) h).1) in wrote.others b (kept b l h) ∙ one.others b (kept b l h);
   }
     where

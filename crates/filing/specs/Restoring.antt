@@ -1,5 +1,5 @@
 -- Boxes of a shelf that were out, put in again and restored. Boxes go by their places, from 0. Assumes nothing.
-use Rattle.std.specs.Prelude.{◌≡◌, ℕ, suc, ◌+◌, ◌^◌, ◌<◌, ◌≤◌, ◌⊎◌, Bool, true, false, Some}
+use Rattle.std.specs.Prelude.{◌≡◌, ℕ, suc, ◌+◌, ◌^◌, ◌<◌, ◌≤◌, ◌⊎◌, Bool, true, false, Some, option_map}
 use Rattle.field.specs.Symbols.{Symbols}
 use Rattle.code.specs.Codes.{File, column, full, Alike}
 use Rattle.shelf.specs.Meaning.{Meaning, box_count, column as box_column, symbol_at}
@@ -8,7 +8,7 @@ use Rattle.stripe.specs.Stripes.{held, stands}
 module _ (Y : Symbols) {T : Type 0} (value : T → Y.Symbol) where
   -- row a of the box in place b holds zero
   abbrev pub HoldsZero : Meaning T → ℕ → ℕ → Type 0
-  HoldsZero s b a = (x : T) × (symbol_at s (suc b) a ≡ Some x) × (value x ≡ Y.ring.zero)
+  HoldsZero s b a = option_map value (symbol_at s (suc b) a) ≡ Some Y.ring.zero
 
   -- the boxes that are asked for have been put in with zero in every row, and nothing else has changed
   pub record PutIn (asked : ℕ → Bool) (old new : Meaning T) : Type 0 where

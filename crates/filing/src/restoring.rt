@@ -82,7 +82,6 @@ fn put_in_box<F: Sums, S: Shelf<Symbol = F>>(shelf: &mut S, b: usize)
 }
 
 // Puts in the boxes that are listed as missing, with zero in every row.
-#[tactic(auto, using(crate::proofs::Restores::second_out))]
 fn put_in<F: Sums, S: Shelf<Symbol = F>>(shelf: &mut S, missing: Missing)
     requires boxes { boxes_of (box_count (S.meaning shelf.old)) missing ≡ true }
     requires out { (b : ℕ) → present missing b ≡ false → is_out (S.meaning shelf.old) (suc b) ≡ true }
@@ -103,6 +102,7 @@ fn put_in<F: Sums, S: Shelf<Symbol = F>>(shelf: &mut S, missing: Missing)
 // many they were. In every row that is not of the stripe they hold zero. The
 // work buffer shows the file. Refused, with nothing written, by a shelf or a
 // length that does not fit, and where three or more boxes are out.
+#[tactic(auto, using(crate::proofs::Restores::found_count))]
 pub fn restore_out<F: Quotients, S: Shelf<Symbol = F>>(
     shelf: &mut S,
     stripe: &Stripe<F>,

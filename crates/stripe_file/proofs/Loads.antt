@@ -1,5 +1,5 @@
 -- What reading the columns of a stripe leads to. Assumes nothing.
-use Rattle.std.proofs.Common.{◌≡◌, ℕ, zero, suc, ◌+◌, ◌*◌, ◌^◌, ◌<◌, Bool, true, false, if◌then◌else◌, List, None, ◌-◌, drop, length, take, sym, refl, ap, ap₂, ◌∙◌, subst, add-one, arith, tests}
+use Rattle.std.proofs.Common.{◌≡◌, ℕ, zero, suc, ◌+◌, ◌*◌, ◌^◌, ◌<◌, Bool, true, if◌then◌else◌, List, ◌-◌, drop, length, take, sym, refl, ap, ap₂, ◌∙◌, subst, add-one, arith, tests}
 use Rattle.std.proofs.lemmas.Bool.{cond-true}
 use Rattle.field.specs.Symbols.{Symbols}
 use Rattle.code.specs.Codes.{Code, Column, File, data_boxes, full}
@@ -11,13 +11,9 @@ use Rattle.code.specs.Standing.{Counts, FileOf, standing}
 use Rattle.missing.specs.Missing.{Found, present}
 use Rattle.missing.specs.declared.Missing.{Missing}
 use Rattle.missing.proofs.Presence.{present_found}
-use Rattle.refusal.specs.Refusals.{where_holds}
-use Rattle.refusal.specs.declared.Refusal.{Refusal}
 use Rattle.shelf.specs.Meaning.{Meaning}
 use Rattle.shelf_rows.specs.Rows.{has_rows, rows_at, rows_read}
 use Rattle.stripe.specs.Stripes.{StripeFile, has_stripe, held, stands}
-use Rattle.stripe_file.specs.Reasons.{some_out}
-use Rattle.stripe_file.proofs.Searches.{all_there}
 
 -- a box that stands has the rows of the stripe
 module _ {T : Type 0} (m from b : ℕ) (s : Meaning T) where
@@ -61,12 +57,3 @@ module _ (Y : Symbols) {T : Type 0} (v : T → Y.Symbol) (m from : ℕ) (s s1 s2
   file_read found f of =
       subst (λ k. StripeFile Y v m from k f) (e2 ∙ e1)
       (file_like (full Y m) (present missing) (stands s2) (λ b l. present_found (stands s2) (3 * m + 2) missing (subst (λ k. Found (stands k) (3 * m + 2) missing) (sym e2) (subst (λ n. Found (stands s1) (n + 2) missing) eb found)) b l) (held Y v m from s2) f of)
-
-  not_refused : (t : Bool) (why : Refusal) → None ≡ where_holds t why → t ≡ false
-  not_refused true why e = absurd (grind arith)
-  not_refused false why e = refl
-
-  pub others_there : (t : Bool) (why : Refusal) → None ≡ where_holds t why → t ≡ some_out (present missing) (stands s1) (boxes + 2)
-      → (b : ℕ) → b < 3 * m + 2 → present missing b ≡ true → stands s2 b ≡ true
-  others_there t why none is b l e =
-      ap (λ k. stands k b) e2 ∙ all_there (present missing) (stands s1) (boxes + 2) (sym is ∙ not_refused t why none) b (omega arith) e

@@ -1,5 +1,5 @@
 -- What a search over the boxes of a shelf tells. Assumes nothing.
-use Rattle.std.proofs.Common.{◌≡◌, ℕ, zero, suc, ◌+◌, ◌<◌, ◌≤◌, Bool, true, false, None, Some, refl, sym, ap, ◌∙◌, subst, inl, inr, arith, le-ltb, lt-ltb, add-one, true≢false}
+use Rattle.std.proofs.Common.{◌≡◌, ℕ, zero, suc, ◌+◌, ◌<◌, ◌≤◌, Bool, true, false, None, Some, sym, ap, ◌∙◌, subst, inl, inr, arith, le-ltb, lt-ltb, add-one}
 use Rattle.std.proofs.lemmas.Bool.{cases_order, cond-true, cond-false}
 use Rattle.std.proofs.lemmas.Bool.Decides.{nat_tests}
 use Rattle.boxes.specs.Out.{many_out}
@@ -43,14 +43,6 @@ module _ (asked stand : ℕ → Bool) where
         | inr (inl k) ↦ let r = more_out n b k e h in grind (arith, nat_tests)
         | inr (inr k) ↦ absurd (omega arith)
       ]
-
-  -- and where none is found, each stands
-  pub all_there : (n : ℕ) → some_out asked stand n ≡ false → (b : ℕ) → b < n → asked b ≡ true → stand b ≡ true
-  all_there n none b l e = by (stand b) refl
-    where
-      by : (v : Bool) → stand b ≡ v → v ≡ true
-      by true h = refl
-      by false h = absurd (true≢false (sym (more_out n b l e h) ∙ none))
 
 -- a box of a shelf that is found
 module _ {T : Type 0} (s s1 : Meaning T) (n b : ℕ) (standing : Bool) (e : s1 ≡ s) (l : b < n) (answer : standing ≡ is_standing s1 (b + 1)) (out : standing ≡ false) where

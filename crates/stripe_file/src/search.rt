@@ -1,5 +1,5 @@
 // Which boxes of a shelf are out.
-ghost use Rattle.std.specs.Prelude.{◌≡◌, ℕ, ◌+◌, ◌-◌, ◌<◌, ◌≤◌, not, IfOk, MatchOption};
+ghost use Rattle.std.specs.Prelude.{◌≡◌, ℕ, ◌+◌, ◌-◌, ◌<◌, ◌≤◌, true, false, not, IfOk, MatchOption};
 ghost use Rattle.boxes.specs.Out.{many_out};
 ghost use Rattle.missing.specs.Missing.{AllStand, Found, LowestOut, present};
 ghost use Rattle.refusal.specs.Refusals.{refusal};
@@ -52,6 +52,7 @@ pub fn find<S: Shelf>(shelf: &mut S, n: usize) -> Result<Missing, Refusal>
 #[tactic(auto, using(crate::proofs::Searches::found_asked))]
 pub fn listed_out<S: Shelf>(shelf: &mut S, n: usize, missing: Missing) -> bool
     ensures answer { result ≡ some_out (λ b. not (present missing b)) (stands (S.meaning shelf.old)) n }
+    ensures none { result ≡ false → (b : ℕ) → b < n → present missing b ≡ false → stands (S.meaning shelf.old) b ≡ true }
     ensures stays { S.meaning shelf.new ≡ S.meaning shelf.old }
     ensures lender { S.buffers shelf.new ≡ S.buffers shelf.old }
 {
@@ -67,6 +68,7 @@ pub fn listed_out<S: Shelf>(shelf: &mut S, n: usize, missing: Missing) -> bool
 #[tactic(auto, using(crate::proofs::Searches::found_asked))]
 pub fn other_out<S: Shelf>(shelf: &mut S, n: usize, missing: Missing) -> bool
     ensures answer { result ≡ some_out (present missing) (stands (S.meaning shelf.old)) n }
+    ensures none { result ≡ false → (b : ℕ) → b < n → present missing b ≡ true → stands (S.meaning shelf.old) b ≡ true }
     ensures stays { S.meaning shelf.new ≡ S.meaning shelf.old }
     ensures lender { S.buffers shelf.new ≡ S.buffers shelf.old }
 {

@@ -3,13 +3,8 @@ use Rattle.missing.specs.Missing.{no_boxes}
 use Rattle.refusal.specs.Refusals.{earliest, wrong_lengths}
 use Rattle.stripe.specs.Stripes.{no_stripe, stands}
 use Rattle.stripe_file.specs.Reasons.{listed_out, other_out}
-use Rattle.filing.proofs.Restores.{earliest_with, listed_there, none_listed}
+use Rattle.filing.proofs.Restores.{earliest_with, none_listed}
 use Rattle.filing.proofs.restoring.restore.Goals as goal
-
-pub write_listed-requires-clause-stand : goal.write_listed-requires-clause-stand
-write_listed-requires-clause-stand g c =
-    let of = g.S.Shelf.meaning in
-    listed_there c.args.missing (of c.on_shelf.new.shelf) (of c.read_without.new.shelf) c.boxes-boxes.result (3 * c.args.stripe.now.cabinet.size.m) (c.read_without.ensures.stays ∙ c.listed_out.ensures.stays) c.boxes-boxes.ensures _ _ c.in_ok-refuse_if-2.ensures c.listed_out.ensures.answer
 
 pub returns-clause-answer : goal.returns-clause-answer
 returns-clause-answer g c =

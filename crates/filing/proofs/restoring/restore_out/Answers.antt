@@ -1,12 +1,7 @@
-use Rattle.std.proofs.Common.{◌+◌, ◌*◌, ◌^◌, arith}
+use Rattle.std.proofs.Common.{◌^◌}
 use Rattle.code.specs.Contents.{parts}
-use Rattle.stripe.specs.Stripes.{stands}
-use Rattle.filing.proofs.Restores.{first_asked, found_count, restored}
+use Rattle.filing.proofs.Restores.{first_asked, restored}
 use Rattle.filing.proofs.restoring.restore_out.Goals as goal
-
-pub returns-clause-count : goal.returns-clause-count
-returns-clause-count g c =
-    omega (arith, c.count.ensures, found_count (stands (g.S.Shelf.meaning c.args.shelf.now)) (3 * c.args.stripe.now.cabinet.size.m + 2) c.in_ok-missing.missing c.in_ok-missing.ensures.missing)
 
 pub returns-clause-boxes : goal.returns-clause-boxes
 returns-clause-boxes g c =

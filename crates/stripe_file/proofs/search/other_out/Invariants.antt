@@ -1,4 +1,4 @@
-use Rattle.std.proofs.Common.{◌≡◌, false}
+use Rattle.std.proofs.Common.{◌≡◌, ℕ, ◌<◌, true, false}
 use Rattle.missing.specs.Missing.{present}
 use Rattle.stripe.specs.Stripes.{stands}
 use Rattle.stripe_file.specs.Reasons.{some_out}
@@ -9,3 +9,4 @@ invariant-loop-b g l =
     let s = g.S.Shelf in
     (s.meaning l.shelf ≡ s.meaning l.initial.shelf) × (s.buffers l.shelf ≡ s.buffers l.initial.shelf)
     × (some_out (present l.missing) (stands (s.meaning l.initial.shelf)) l.b ≡ false)
+    × ((d : ℕ) → d < l.b → present l.missing d ≡ true → stands (s.meaning l.initial.shelf) d ≡ true)
