@@ -114,8 +114,8 @@ pub fn restore_out<F: Quotients, S: Shelf<Symbol = F>>(
     ensures boxes { let m = stripe.now.cabinet.size.m in MatchResult result (λ _. Restored F.symbols F.value m stripe.now.from (parts F.symbols F.value (2 ^ m) work.new) (S.meaning shelf.old) (S.meaning shelf.new)) (λ _. S.meaning shelf.new ≡ S.meaning shelf.old) }
     ensures lender { S.buffers shelf.new ≡ S.buffers shelf.old }
 {
-    let missing = read_file(shelf, stripe, work)?;
-    put_in(shelf, missing);
-    write_listed(shelf, stripe, missing, work);
-    Ok(missing.count())
+    let out = read_file(shelf, stripe, work)?;
+    put_in(shelf, out);
+    write_listed(shelf, stripe, out, work);
+    Ok(out.count())
 }
