@@ -1,5 +1,5 @@
 -- What an accepted call leaves: its buffer, and a ledger. Assumes nothing.
-use Rattle.std.proofs.Common.{◌≡◌, ℕ, suc, ◌+◌, ◌-◌, ◌*◌, ◌^◌, ◌≤◌, inl, inr, Bool, true, not, ◌||◌, ◌==◌, List, ◌++◌, length, drop, unwrap_or, Option, Some, None, refl, sym, ap, ◌∙◌, subst, length-append, length-drop, arith}
+use Rattle.std.proofs.Common.{◌≡◌, ◌≢◌, ℕ, suc, ◌+◌, ◌-◌, ◌*◌, ◌^◌, ◌≤◌, inl, inr, Bool, true, not, ◌||◌, ◌==◌, List, ◌++◌, length, drop, unwrap_or, Option, Some, None, refl, sym, ap, ◌∙◌, subst, length-append, length-drop, arith}
 use Rattle.std.proofs.lemmas.Bool.{and_parts, cases_eq, eqb-true, false≢true, or_cases}
 use Rattle.std.proofs.Math.Nat.{pow-suc}
 use Rattle.std.proofs.lemmas.Nat.{mul-add-lt, mul-le}
@@ -9,7 +9,7 @@ use Rattle.field.specs.Symbols.{Symbols}
 use Rattle.code.specs.Codes.{HasHalves, column, full, half_for, helper}
 use Rattle.code.specs.Contents.{Holds, parts}
 use Rattle.refusal.specs.declared.Refusal.TheVariants.{NotSetUp, Size, Marks, Shape, Length, NoBox}
-use Rattle.ledger.specs.Calls.{lent, size_of, wanted, half_length}
+use Rattle.ledger.specs.Calls.{lent, size_of, half_length}
 use Rattle.ledger.specs.Laws.{IsLedger, IsSetUp, Leaves}
 use Rattle.ledger.specs.Ledgers.{Fed, Ledger, accept, contents, halves_in, listed}
 use Rattle.ledger.specs.declared.calls.Call.TheVariants.{SetUp, Put, Amend, Read, Column, Message, Lose, Renew, Rebuild}
@@ -24,6 +24,10 @@ room m h =
     let q : (3 * m) * 2 ^ m ≡ 3 * m * (2 ^ (m - 1) * 2) = ap (λ n. 3 * m * n) p in
     let r : 1 * 2 ^ (m - 1) ≤ m * 2 ^ (m - 1) = mul-le 1 (2 ^ (m - 1)) m (2 ^ (m - 1)) h (omega arith) in
     omega arith
+
+-- a length that is not wrong
+fitting : {X : Type 0} (xs : List X) (n : ℕ) → (length xs ≢ n → ⊥) → length xs ≡ n
+fitting xs n right = elim (cases_eq (length xs) n) [ inl e ↦ e | inr ne ↦ absurd (right ne) ]
 
 pub some_size : (o : Option ℕ) → (o ≡ None → ⊥) → o ≡ Some (unwrap_or o 0)
 some_size None h = absurd (h refl)
@@ -67,7 +71,7 @@ module _ (Y : Symbols) where
       rest : drop count (front ++ drop count work) ≡ drop count work
       rest = drop_at front (drop count work) count length_front
 
-    pub leaves : (call : Fed Y) → Leaves Y l call (accept Y l call).reply.buffer (accept Y l call).next.file
+    pub leaves : (call : Fed Y) → Leaves Y m (contents Y m l.file) call (accept Y l call).reply.buffer (accept Y l call).next.file
     leaves (SetUp k) = refl
     leaves (Put file) = refl
     leaves (Amend b a x work) = refl
@@ -77,10 +81,6 @@ module _ (Y : Symbols) where
     leaves (Lose b) = refl
     leaves (Renew b work) = (halves b work, rest b work)
     leaves (Rebuild work) = refl
-
-    -- what is known where no refusal fits
-    fitting : (call : Fed Y) → Clear Y l call → length (lent call) ≡ wanted m call
-    fitting call clear = elim (cases_eq (length (lent call)) (wanted m call)) [ inl e ↦ e | inr ne ↦ absurd (clear Length ne) ]
 
     module _ (lawful : IsLedger Y l) where
       pub set_up_with : (l.state.size ≡ None → ⊥) → IsSetUp Y l m
@@ -92,13 +92,13 @@ module _ (Y : Symbols) where
       pub lengths : (call : Fed Y) → Clear Y l call → length (accept Y l call).reply.buffer ≡ length (lent call)
       lengths (SetUp k) clear = refl
       lengths (Put file) clear = refl
-      lengths (Amend b a x work) clear = length-set l.file _ x ∙ whole (clear NotSetUp) ∙ sym (fitting (Amend b a x work) clear)
-      lengths (Read into) clear = whole (clear NotSetUp) ∙ sym (fitting (Read into) clear)
-      lengths (Column b into) clear = length-listed _ _ ∙ sym (fitting (Column b into) clear)
-      lengths (Message helper lost into) clear = length-listed _ _ ∙ sym (fitting (Message helper lost into) clear)
+      lengths (Amend b a x work) clear = length-set l.file _ x ∙ whole (clear NotSetUp) ∙ sym (fitting work _ (clear Length))
+      lengths (Read into) clear = whole (clear NotSetUp) ∙ sym (fitting into _ (clear Length))
+      lengths (Column b into) clear = length-listed _ _ ∙ sym (fitting into _ (clear Length))
+      lengths (Message helper lost into) clear = length-listed _ _ ∙ sym (fitting into _ (clear Length))
       lengths (Lose b) clear = refl
-      lengths (Renew b work) clear = length_renewed b work (set_up_with (clear NotSetUp)).some (fitting (Renew b work) clear)
-      lengths (Rebuild work) clear = whole (clear NotSetUp) ∙ sym (fitting (Rebuild work) clear)
+      lengths (Renew b work) clear = length_renewed b work (set_up_with (clear NotSetUp)).some (fitting work _ (clear Length))
+      lengths (Rebuild work) clear = whole (clear NotSetUp) ∙ sym (fitting work _ (clear Length))
 
       -- with other boxes out, or another file of the same length, it is a ledger still
       abbrev with_out : (ℕ → Bool) → Ledger Y
@@ -149,7 +149,7 @@ module _ (Y : Symbols) where
 
       pub still : (call : Fed Y) → Clear Y l call → IsLedger Y (accept Y l call).next
       still (SetUp k) clear = newly k clear
-      still (Put file) clear = other_file file (clear NotSetUp) (fitting (Put file) clear)
+      still (Put file) clear = other_file file (clear NotSetUp) (fitting file _ (clear Length))
       still (Amend b a x work) clear = other_file _ (clear NotSetUp) (length-set l.file _ x ∙ whole (clear NotSetUp))
       still (Read into) clear = lawful
       still (Column b into) clear = lawful

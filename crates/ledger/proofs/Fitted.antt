@@ -81,7 +81,6 @@ module _ (Y : Symbols) (s : State) where
     set_up_among k Size h = here ((outside 6 k).if_holds h)
     set_up_among k Marks h = later (here ((above _ _).if_holds h))
     set_up_among k Shape h = later (later (here ((differ _ _ _ _).if_holds h)))
-    set_up_among k Length h = absurd (h refl)
     set_up_among k why h = absurd h
 
     amend_fits : (b a : ℕ) (x : T) (work : List T) (why : Refusal) → Among (tests (Amend b a x work)) why → Fits Y s why (Amend b a x work)
@@ -144,7 +143,6 @@ module _ (Y : Symbols) (s : State) where
     lose_among b NotSetUp h = here ((absent s.size).if_holds h)
     lose_among b NoBox h = later (here ((outside _ b).if_holds h))
     lose_among b Out h = later (later (here (h)))
-    lose_among b Length h = absurd (h refl)
     lose_among b why h = absurd h
 
     renew_fits : (b : ℕ) (work : List T) (why : Refusal) → Among (tests (Renew b work)) why → Fits Y s why (Renew b work)

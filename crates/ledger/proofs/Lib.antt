@@ -1,6 +1,8 @@
 pub mod Accepted
+pub mod Alike
 pub mod Counts
 pub mod Fitted
+pub mod Lengths
 pub mod Lists
 pub mod Newest
 pub mod Reasons

@@ -1,9 +1,9 @@
 -- The laws of every call. Assumes nothing.
 use Rattle.std.proofs.Common.{◌≡◌, length, Ok, refl, ap, ◌∙◌}
 use Rattle.field.specs.Symbols.{Symbols}
-use Rattle.ledger.specs.Calls.{lent}
+use Rattle.ledger.specs.Calls.{lent, size_of}
 use Rattle.ledger.specs.Laws.{Decided, IsLedger, Leaves}
-use Rattle.ledger.specs.Ledgers.{Fed, Ledger, Outcome, accept, step}
+use Rattle.ledger.specs.Ledgers.{Fed, Ledger, Outcome, accept, contents, step}
 use Rattle.ledger.specs.declared.calls.Call.TheVariants.{SetUp, Put, Amend, Read, Column, Message, Lose, Renew, Rebuild}
 use Rattle.ledger.proofs.Accepted.{leaves, lengths, still}
 use Rattle.ledger.proofs.Steps.{accepted, answered, by_verdict, declined, unchanged}
@@ -45,7 +45,7 @@ module _ (Y : Symbols) (l : Ledger Y) where
     declined = declined Y l call;
     accepted = λ clear. ap (λ (o : Outcome Y). o.reply.answer) (accepted Y l call clear) ∙ answered Y l call;
     unchanged = unchanged Y l call _;
-    leaves = λ x. by_verdict Y l call (λ o. o.reply.answer ≡ Ok x → Leaves Y l call o.reply.buffer o.next.file) (λ why e. cc) (λ clear e. leaves Y l call);
+    leaves = λ x. by_verdict Y l call (λ o. o.reply.answer ≡ Ok x → Leaves Y (size_of l.state) (contents Y (size_of l.state) l.file) call o.reply.buffer o.next.file) (λ why e. cc) (λ clear e. leaves Y l call);
     length = by_verdict Y l call (λ o. length o.reply.buffer ≡ length (lent call)) (λ why. refl) (lengths Y l lawful call);
     boxes = boxes_stay call;
     rows = rows_stay call;

@@ -10,6 +10,18 @@ use Rattle.boxes.specs.Out.{many_out}
 use Rattle.ledger.specs.declared.calls.Call.{Call}
 use Rattle.ledger.specs.declared.calls.Call.TheVariants.{SetUp, Put, Amend, Read, Column, Message, Lose, Renew, Rebuild}
 
+-- the same call with other symbols and buffers
+abbrev pub call_map : {S T A B : Type 0} → (S → T) → (A → B) → Call S A → Call T B
+call_map f g (SetUp m) = SetUp m
+call_map f g (Put file) = Put (g file)
+call_map f g (Amend b a x work) = Amend b a (f x) (g work)
+call_map f g (Read into) = Read (g into)
+call_map f g (Column b into) = Column b (g into)
+call_map f g (Message helper lost into) = Message helper lost (g into)
+call_map f g (Lose b) = Lose b
+call_map f g (Renew b work) = Renew b (g work)
+call_map f g (Rebuild work) = Rebuild (g work)
+
 -- What the reasons depend on: how many boxes and rows there are, the size once set up, and which boxes are out.
 -- Boxes go by their numbers, from 1.
 pub record State : Type 0 where

@@ -1,9 +1,9 @@
 -- The refusals in plain facts: which calls each fits. Assumes nothing.
-use Rattle.std.specs.Prelude.{◌≡◌, ◌≢◌, ℕ, ◌+◌, ◌*◌, ◌^◌, ◌<◌, ◌≤◌, ◌⊎◌, true, false, List, length, None}
+use Rattle.std.specs.Prelude.{◌≡◌, ◌≢◌, ℕ, ◌+◌, ◌-◌, ◌*◌, ◌^◌, ◌<◌, ◌≤◌, ◌⊎◌, true, false, List, length, None}
 use Rattle.field.specs.Symbols.{Symbols}
 use Rattle.refusal.specs.declared.Refusal.{Refusal}
 use Rattle.refusal.specs.declared.Refusal.TheVariants.{NotSetUp, Size, Marks, Shape, Length, NoBox, NoRow, Out, Standing, ManyOut, NotRenewable, Helper, Unheard}
-use Rattle.ledger.specs.Calls.{State, lent, out_count, size_of, wanted}
+use Rattle.ledger.specs.Calls.{State, out_count, size_of}
 use Rattle.ledger.specs.declared.calls.Call.{Call}
 use Rattle.ledger.specs.declared.calls.Call.TheVariants.{SetUp, Put, Amend, Read, Column, Message, Lose, Renew, Rebuild}
 
@@ -29,7 +29,14 @@ module _ (Y : Symbols) (s : State) where
     Fits Shape (SetUp k) = (s.boxes ≢ 3 * k + 2) ⊎ (s.rows ≢ 2 ^ k)
     Fits Shape call = ⊥
     -- a buffer of another length
-    Fits Length call = length (lent call) ≢ wanted m call
+    Fits Length (Put file) = length file ≢ 3 * m * 2 ^ m
+    Fits Length (Amend b a x work) = length work ≢ 3 * m * 2 ^ m
+    Fits Length (Read into) = length into ≢ 3 * m * 2 ^ m
+    Fits Length (Column b into) = length into ≢ 2 ^ m
+    Fits Length (Message helper lost into) = length into ≢ 2 ^ (m - 1)
+    Fits Length (Renew b work) = length work ≢ 3 * m * 2 ^ m
+    Fits Length (Rebuild work) = length work ≢ 3 * m * 2 ^ m
+    Fits Length call = ⊥
     -- no such box
     Fits NoBox (Amend b a x work) = Outside (3 * m) b
     Fits NoBox (Column b into) = Outside (3 * m + 2) b

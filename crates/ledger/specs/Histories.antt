@@ -1,5 +1,5 @@
 -- Histories: calls with what each came to, the oldest first, and what follows from them by the newest that matters. Assumes nothing.
-use Rattle.std.specs.Prelude.{ℕ, ◌-◌, Bool, true, false, ◌&&◌, ◌==◌, List, [], ◌∷◌, Option, Some, None, is_ok, is_some, unwrap_or, if◌then◌else◌}
+use Rattle.std.specs.Prelude.{ℕ, suc, ◌-◌, Bool, true, false, ◌&&◌, ◌==◌, List, [], ◌∷◌, Option, Some, None, is_ok, is_some, unwrap_or, if◌then◌else◌}
 use Rattle.std.specs.List.{after_last, zip}
 use Rattle.std.specs.Option.{option_or}
 use Rattle.field.specs.Symbols.{Symbols}
@@ -56,3 +56,7 @@ module _ (Y : Symbols) where
   -- what the newest accepted call that wrote there since the last accepted set up left in row a of data box b, else zero
   abbrev pub newest_write : ℕ → List Entry → ℕ → ℕ → Y.Symbol
   newest_write m h b a = unwrap_or (newest (accepted (writes m b a)) (since_set_up h)) Y.ring.zero
+
+  -- the file of these symbols, by places from 0
+  abbrev pub told : ℕ → List Entry → ℕ → ℕ → Y.Symbol
+  told m h b a = newest_write m h (suc b) a

@@ -1,13 +1,14 @@
 -- What holds of every ledger, whatever calls it was fed: why it declines, what a declined call leaves, and what the history says of the rest. Assumes nothing.
-use Rattle.std.specs.Prelude.{◌≡◌, ℕ, ◌+◌, ◌-◌, ◌*◌, ◌^◌, ◌<◌, ◌≤◌, ◌↔◌, true, false, List, [], length, drop, Some, None, Ok, Err}
+use Rattle.std.specs.Prelude.{◌≡◌, ℕ, ◌+◌, ◌-◌, ◌*◌, ◌^◌, ◌≤◌, ◌↔◌, true, false, List, [], length, drop, Some, None, Ok, Err}
 use Rattle.field.specs.Symbols.{Symbols}
 use Rattle.code.specs.Codes.{HasHalves, column, full, half_for}
+use Rattle.code.specs.Laws.{Same}
 use Rattle.code.specs.Contents.{Holds, parts}
 use Rattle.refusal.specs.Refusals.{number}
 use Rattle.refusal.specs.declared.Refusal.{Refusal}
 use Rattle.ledger.specs.Calls.{lent, out_count, size_of}
 use Rattle.ledger.specs.Fitting.{Fits}
-use Rattle.ledger.specs.Histories.{Entry, history, is_lost, newest_write, size_in_force}
+use Rattle.ledger.specs.Histories.{Entry, history, is_lost, size_in_force, told}
 use Rattle.ledger.specs.Ledgers.{Fed, Ledger, Outcome, Reply, contents, final, fresh, step}
 use Rattle.ledger.specs.declared.calls.Answer.{Answer}
 use Rattle.ledger.specs.declared.calls.Answer.TheVariants.{Done, Count}
@@ -29,34 +30,31 @@ module _ (Y : Symbols) where
     pub numbered : (b : ℕ) → l.state.out b ≡ true → (1 ≤ b) × (b ≤ l.state.boxes)
     pub empty : l.state.size ≡ None → (b : ℕ) → l.state.out b ≡ false
 
+  -- what the buffer of an accepted call holds afterwards, where the boxes hold the file f of size m, and the ledger then holds the list `file`
+  module _ (m : ℕ) (f : ℕ → ℕ → Y.Symbol) where
+    abbrev pub Leaves : Fed Y → List Y.Symbol → List Y.Symbol → Type 0
+    Leaves (SetUp k) buffer file = buffer ≡ []
+    Leaves (Put sent) buffer file = buffer ≡ sent
+    Leaves (Amend b a x work) buffer file = buffer ≡ file
+    Leaves (Read into) buffer file = buffer ≡ file
+    Leaves (Column b into) buffer file = Holds Y (λ x. x) (2 ^ m) buffer (column (full Y m) f (b - 1))
+    Leaves (Message helper lost into) buffer file =
+        Holds Y (λ x. x) (2 ^ (m - 1)) buffer (half_for (full Y m) (lost - 1) (column (full Y m) f (helper - 1)))
+    Leaves (Lose b) buffer file = buffer ≡ []
+    Leaves (Renew b work) buffer file =
+        HasHalves (full Y m) (b - 1) f (parts Y (λ x. x) (2 ^ (m - 1)) buffer)
+        × (drop ((3 * m + 1) * 2 ^ (m - 1)) buffer ≡ drop ((3 * m + 1) * 2 ^ (m - 1)) work)
+    Leaves (Rebuild work) buffer file = buffer ≡ file
+
   module _ (l : Ledger Y) where
     abbrev m : ℕ
     m = size_of l.state
-
-    -- the file as the ledger holds it, by boxes and rows
-    abbrev held : ℕ → ℕ → Y.Symbol
-    held = contents Y m l.file
 
     -- what a call answers that is not declined
     abbrev pub answers : Fed Y → Answer
     answers (Renew b work) = Count ((3 * m + 1) * 2 ^ (m - 1))
     answers (Rebuild work) = Count (out_count l.state)
     answers call = Done
-
-    -- what its buffer holds afterwards, beside the file that the ledger holds then
-    abbrev pub Leaves : Fed Y → List Y.Symbol → List Y.Symbol → Type 0
-    Leaves (SetUp k) buffer file = buffer ≡ []
-    Leaves (Put sent) buffer file = buffer ≡ sent
-    Leaves (Amend b a x work) buffer file = buffer ≡ file
-    Leaves (Read into) buffer file = buffer ≡ file
-    Leaves (Column b into) buffer file = Holds Y (λ x. x) (2 ^ m) buffer (column (full Y m) held (b - 1))
-    Leaves (Message helper lost into) buffer file =
-        Holds Y (λ x. x) (2 ^ (m - 1)) buffer (half_for (full Y m) (lost - 1) (column (full Y m) held (helper - 1)))
-    Leaves (Lose b) buffer file = buffer ≡ []
-    Leaves (Renew b work) buffer file =
-        HasHalves (full Y m) (b - 1) held (parts Y (λ x. x) (2 ^ (m - 1)) buffer)
-        × (drop ((3 * m + 1) * 2 ^ (m - 1)) buffer ≡ drop ((3 * m + 1) * 2 ^ (m - 1)) work)
-    Leaves (Rebuild work) buffer file = buffer ≡ file
 
     -- one of those that fit has the least number
     pub record Least (call : Fed Y) (why : Refusal) : Type 0 where
@@ -71,7 +69,7 @@ module _ (Y : Symbols) where
       -- a declined call changes nothing
       pub unchanged : (why : Refusal) → o.reply.answer ≡ Err why → (o.reply.buffer ≡ lent call) × (o.next ≡ l)
       -- an accepted one leaves what it should
-      pub leaves : (x : Answer) → o.reply.answer ≡ Ok x → Leaves call o.reply.buffer o.next.file
+      pub leaves : (x : Answer) → o.reply.answer ≡ Ok x → Leaves m (contents Y m l.file) call o.reply.buffer o.next.file
       -- no buffer changes its length, and no shelf its boxes and rows
       pub length : length o.reply.buffer ≡ length (lent call)
       pub boxes : o.next.state.boxes ≡ l.state.boxes
@@ -86,15 +84,11 @@ module _ (Y : Symbols) where
     abbrev past : List (Entry Y)
     past = history Y (fresh Y n k) calls
 
-    -- in each place of a file is what was written there last
-    abbrev pub HasNewest : ℕ → List Y.Symbol → Type 0
-    HasNewest m file = (b a : ℕ) → 1 ≤ b → b ≤ 3 * m → a < 2 ^ m → contents Y m file (b - 1) a ≡ newest_write Y m past b a
-
-    -- a read that is accepted, and finds these symbols
+    -- a read that is accepted, and finds the file that the history tells
     pub record IsRead (m : ℕ) (r : Reply Y) : Type 0 where
       pub answer : r.answer ≡ Ok Done
       pub whole : length r.buffer ≡ 3 * m * 2 ^ m
-      pub newest : HasNewest m r.buffer
+      pub newest : Same (full Y m) (contents Y m r.buffer) (told Y m past)
 
     pub record Remembers : Type 0 where
       pub is_ledger : IsLedger ledger
@@ -104,10 +98,12 @@ module _ (Y : Symbols) where
       pub size : ledger.state.size ≡ size_in_force Y past
       -- the boxes out are those lost since then, and not brought back since
       pub out : (b : ℕ) → ledger.state.out b ≡ is_lost Y past b
-      -- the newest write wins: in the file, and in what is read where at most two boxes are out
-      pub newest : (m : ℕ) → ledger.state.size ≡ Some m → HasNewest m ledger.file
+      -- the newest write wins: in the file, in what is read where at most two boxes are out, and in all that a call leaves
+      pub newest : (m : ℕ) → ledger.state.size ≡ Some m → Same (full Y m) (contents Y m ledger.file) (told Y m past)
       pub read : (m : ℕ) → ledger.state.size ≡ Some m → out_count ledger.state ≤ 2 → (into : List Y.Symbol) → length into ≡ 3 * m * 2 ^ m
           → IsRead m (step Y ledger (Read into)).reply
+      pub leaves : (m : ℕ) → ledger.state.size ≡ Some m → (call : Fed Y) → let o = step Y ledger call in (x : Answer) → o.reply.answer ≡ Ok x
+          → Leaves m (told Y m past) call o.reply.buffer o.next.file
 
   -- the laws of ledgers
   pub record LedgerStands : Type 0 where
