@@ -11,7 +11,7 @@ use Rattle.code.specs.Contents.{Holds, parts}
 use Rattle.refusal.specs.declared.Refusal.TheVariants.{NotSetUp, Size, Marks, Shape, Length, NoBox}
 use Rattle.ledger.specs.Calls.{lent, size_of, half_length}
 use Rattle.ledger.specs.Laws.{IsLedger, IsSetUp, Leaves}
-use Rattle.ledger.specs.Ledgers.{Fed, Ledger, accept, contents, halves_in, listed}
+use Rattle.ledger.specs.Ledgers.{LedgerCall, Ledger, accept, contents, halves_in, listed}
 use Rattle.ledger.specs.declared.calls.Call.TheVariants.{SetUp, Put, Amend, Read, Column, Message, Lose, Renew, Rebuild}
 use Rattle.ledger.proofs.Lists.{at_is, get_or-joined, get_or-listed, length-joined, length-listed}
 use Rattle.ledger.proofs.Steps.{Clear}
@@ -71,7 +71,7 @@ module _ (Y : Symbols) where
       rest : drop count (front ++ drop count work) ≡ drop count work
       rest = drop_at front (drop count work) count length_front
 
-    pub leaves : (call : Fed Y) → Leaves Y m (contents Y m l.file) call (accept Y l call).reply.buffer (accept Y l call).next.file
+    pub leaves : (call : LedgerCall Y) → Leaves Y m (contents Y m l.file) call (accept Y l call).reply.buffer (accept Y l call).next.file
     leaves (SetUp k) = refl
     leaves (Put file) = refl
     leaves (Amend b a x work) = refl
@@ -89,7 +89,7 @@ module _ (Y : Symbols) where
       pub whole : (l.state.size ≡ None → ⊥) → length l.file ≡ 3 * m * 2 ^ m
       whole h = (set_up_with h).whole
 
-      pub lengths : (call : Fed Y) → Clear Y l call → length (accept Y l call).reply.buffer ≡ length (lent call)
+      pub lengths : (call : LedgerCall Y) → Clear Y l call → length (accept Y l call).reply.buffer ≡ length (lent call)
       lengths (SetUp k) clear = refl
       lengths (Put file) clear = refl
       lengths (Amend b a x work) clear = length-set l.file _ x ∙ whole (clear NotSetUp) ∙ sym (fitting work _ (clear Length))
@@ -147,7 +147,7 @@ module _ (Y : Symbols) where
         | inr o ↦ lawful.numbered d o
       ]
 
-      pub still : (call : Fed Y) → Clear Y l call → IsLedger Y (accept Y l call).next
+      pub still : (call : LedgerCall Y) → Clear Y l call → IsLedger Y (accept Y l call).next
       still (SetUp k) clear = newly k clear
       still (Put file) clear = other_file file (clear NotSetUp) (fitting file _ (clear Length))
       still (Amend b a x work) clear = other_file _ (clear NotSetUp) (length-set l.file _ x ∙ whole (clear NotSetUp))

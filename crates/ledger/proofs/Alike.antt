@@ -10,7 +10,7 @@ use Rattle.code.proofs.Stands.{same_columns}
 use Rattle.code.proofs.Theory.{proper, shift_below}
 use Rattle.refusal.specs.declared.Refusal.TheVariants.{NoBox}
 use Rattle.ledger.specs.Laws.{IsSetUp, Leaves}
-use Rattle.ledger.specs.Ledgers.{Fed, Ledger}
+use Rattle.ledger.specs.Ledgers.{LedgerCall, Ledger}
 use Rattle.ledger.specs.Calls.{size_of}
 use Rattle.ledger.specs.declared.calls.Call.TheVariants.{SetUp, Put, Amend, Read, Column as Columned, Message, Lose, Renew, Rebuild}
 use Rattle.ledger.proofs.Steps.{Clear}
@@ -42,7 +42,7 @@ module _ (Y : Symbols) (l : Ledger Y) (f g : ℕ → ℕ → Y.Symbol) (set_up :
   halves : (x b : ℕ) → b < 3 * m + 2 → (j : ℕ) → j < 2 ^ (m - 1) → half_for c x (column c f b) j ≡ half_for c x (column c g b) j
   halves x b l = half_same c set_up.some x (column c f b) (column c g b) (columns b l)
 
-  pub leaves_alike : (call : Fed Y) (buffer file : List Y.Symbol) → Clear Y l call → Leaves Y m f call buffer file → Leaves Y m g call buffer file
+  pub leaves_alike : (call : LedgerCall Y) (buffer file : List Y.Symbol) → Clear Y l call → Leaves Y m f call buffer file → Leaves Y m g call buffer file
   leaves_alike (SetUp k) buffer file clear h = h
   leaves_alike (Put sent) buffer file clear h = h
   leaves_alike (Amend b a x work) buffer file clear h = h

@@ -8,9 +8,9 @@ use Rattle.field.specs.Symbols.{Symbols}
 use Rattle.code.specs.Contents.{at}
 use Rattle.refusal.specs.declared.Refusal.TheVariants.{NotSetUp, NoBox, NoRow}
 use Rattle.ledger.specs.Calls.{size_of}
-use Rattle.ledger.specs.Histories.{Entry, accepted, is_lost, moves, newest, newest_write, sets_up, since_set_up, size_in_force, writes}
+use Rattle.ledger.specs.Histories.{Entry, if_accepted, is_lost, new_out, newest, newest_write, new_size, since_set_up, size_in_force, new_symbol}
 use Rattle.ledger.specs.Laws.{IsLedger}
-use Rattle.ledger.specs.Ledgers.{Fed, Ledger, accept, contents, decide, step}
+use Rattle.ledger.specs.Ledgers.{LedgerCall, Ledger, accept, contents, decide, step}
 use Rattle.ledger.specs.declared.calls.Call.TheVariants.{SetUp, Put, Amend, Read, Column, Message, Lose, Renew, Rebuild}
 use Rattle.ledger.proofs.Accepted.{whole}
 use Rattle.ledger.proofs.Lists.{at_is}
@@ -34,21 +34,21 @@ module _ (Y : Symbols) where
     longer = h ++ e ∷ []
 
     abbrev is_set_up : Entry Y → Bool
-    is_set_up x = is_some (accepted Y (sets_up Y) x)
+    is_set_up x = is_some (if_accepted Y (new_size Y) x)
 
-    size_more : size_in_force Y longer ≡ option_or (accepted Y (sets_up Y) e) (size_in_force Y h)
-    size_more = newest_more (accepted Y (sets_up Y)) h e
+    size_more : size_in_force Y longer ≡ option_or (if_accepted Y (new_size Y) e) (size_in_force Y h)
+    size_more = newest_more (if_accepted Y (new_size Y)) h e
 
     -- that is no set up
     module _ (no : is_set_up e ≡ false) where
       since_more : {X : Type 0} (says : Entry Y → Option X) → newest says (since_set_up Y longer) ≡ option_or (says e) (newest says (since_set_up Y h))
       since_more says = ap (newest says) (after_last_more is_set_up h e no) ∙ newest_more says (since_set_up Y h) e
 
-      lost_more : (b : ℕ) → is_lost Y longer b ≡ unwrap_or (option_or (accepted Y (moves Y b) e) (newest (accepted Y (moves Y b)) (since_set_up Y h))) false
-      lost_more b = ap (λ o. unwrap_or o false) (since_more (accepted Y (moves Y b)))
+      lost_more : (b : ℕ) → is_lost Y longer b ≡ unwrap_or (option_or (if_accepted Y (new_out Y b) e) (newest (if_accepted Y (new_out Y b)) (since_set_up Y h))) false
+      lost_more b = ap (λ o. unwrap_or o false) (since_more (if_accepted Y (new_out Y b)))
 
-      write_more : (m b a : ℕ) → newest_write Y m longer b a ≡ unwrap_or (option_or (accepted Y (writes Y m b a) e) (newest (accepted Y (writes Y m b a)) (since_set_up Y h))) Y.ring.zero
-      write_more m b a = ap (λ o. unwrap_or o Y.ring.zero) (since_more (accepted Y (writes Y m b a)))
+      write_more : (m b a : ℕ) → newest_write Y m longer b a ≡ unwrap_or (option_or (if_accepted Y (new_symbol Y m b a) e) (newest (if_accepted Y (new_symbol Y m b a)) (since_set_up Y h))) Y.ring.zero
+      write_more m b a = ap (λ o. unwrap_or o Y.ring.zero) (since_more (if_accepted Y (new_symbol Y m b a)))
 
     -- that is one
     module _ (yes : is_set_up e ≡ true) where
@@ -56,27 +56,27 @@ module _ (Y : Symbols) where
       since_none = after_last_here is_set_up h e yes
 
       none_lost : (b : ℕ) → is_lost Y longer b ≡ false
-      none_lost b = ap (λ s. unwrap_or (newest (accepted Y (moves Y b)) s) false) since_none
+      none_lost b = ap (λ s. unwrap_or (newest (if_accepted Y (new_out Y b)) s) false) since_none
 
       none_written : (m b a : ℕ) → newest_write Y m longer b a ≡ Y.ring.zero
-      none_written m b a = ap (λ s. unwrap_or (newest (accepted Y (writes Y m b a)) s) Y.ring.zero) since_none
+      none_written m b a = ap (λ s. unwrap_or (newest (if_accepted Y (new_symbol Y m b a)) s) Y.ring.zero) since_none
 
   -- An entry that sets nothing up, after a history: it is enough that boxes and symbols are what the entry says, or what they were.
-  turn : (l next : Ledger Y) (h : History) (e : Entry Y) → Agrees l h → accepted Y (sets_up Y) e ≡ None → next.state.size ≡ l.state.size
-      → ((b : ℕ) (o : Option Bool) → l.state.out b ≡ unwrap_or o false → next.state.out b ≡ unwrap_or (option_or (accepted Y (moves Y b) e) o) false)
+  turn : (l next : Ledger Y) (h : History) (e : Entry Y) → Agrees l h → if_accepted Y (new_size Y) e ≡ None → next.state.size ≡ l.state.size
+      → ((b : ℕ) (o : Option Bool) → l.state.out b ≡ unwrap_or o false → next.state.out b ≡ unwrap_or (option_or (if_accepted Y (new_out Y b) e) o) false)
       → ((b a : ℕ) (o : Option Y.Symbol) → let m = size_of l.state in 1 ≤ b → b ≤ 3 * m → a < 2 ^ m → contents Y m l.file (b - 1) a ≡ unwrap_or o Y.ring.zero
-      → contents Y m next.file (b - 1) a ≡ unwrap_or (option_or (accepted Y (writes Y m b a) e) o) Y.ring.zero)
+      → contents Y m next.file (b - 1) a ≡ unwrap_or (option_or (if_accepted Y (new_symbol Y m b a) e) o) Y.ring.zero)
       → Agrees next (h ++ e ∷ [])
   turn l next h e agrees none same boxes symbols =
-      let plain : is_some (accepted Y (sets_up Y) e) ≡ false = ap is_some none in
+      let plain : is_some (if_accepted Y (new_size Y) e) ≡ false = ap is_some none in
       let m : ℕ = size_of l.state in
       let s : size_of l.state ≡ size_of next.state = ap (λ o. unwrap_or o 0) (sym same) in
       record {
         size = same ∙ agrees.size ∙ sym (size_more h e ∙ ap (λ o. option_or o (size_in_force Y h)) none);
-        out = λ b. boxes b (newest (accepted Y (moves Y b)) (since_set_up Y h)) (agrees.out b) ∙ sym (lost_more h e plain b);
+        out = λ b. boxes b (newest (if_accepted Y (new_out Y b)) (since_set_up Y h)) (agrees.out b) ∙ sym (lost_more h e plain b);
         newest = λ b a first.
             subst (λ (k : ℕ). b ≤ 3 * k → a < 2 ^ k → contents Y k next.file (b - 1) a ≡ newest_write Y k (h ++ e ∷ []) b a) s
-            (λ last row. symbols b a (newest (accepted Y (writes Y m b a)) (since_set_up Y h)) first last row (agrees.newest b a first last row) ∙ sym (write_more h e plain m b a));
+            (λ last row. symbols b a (newest (if_accepted Y (new_symbol Y m b a)) (since_set_up Y h)) first last row (agrees.newest b a first last row) ∙ sym (write_more h e plain m b a));
       }
 
   loses : (t : Bool) (was : Bool) (o : Option Bool) → was ≡ unwrap_or o false → (t || was) ≡ unwrap_or (option_or (cond t (Some true) None) o) false
@@ -117,7 +117,7 @@ module _ (Y : Symbols) where
         ∙ sym (at_is Y file ((b - 1) * 2 ^ m + a)) ∙ k
 
   module _ (l : Ledger Y) (h : History) (agrees : Agrees l h) (lawful : IsLedger Y l) where
-    abbrev entry : Fed Y → Entry Y
+    abbrev entry : LedgerCall Y → Entry Y
     entry call = (call, (accept Y l call).reply)
 
     -- box and row of an amendment that no refusal fits
@@ -127,7 +127,7 @@ module _ (Y : Symbols) where
     rowed : (d c : ℕ) (x : Y.Symbol) (work : List Y.Symbol) → Clear Y l (Amend d c x work) → c < 2 ^ size_of l.state
     rowed d c x work clear = let row = clear NoRow in grind arith
 
-    accepts : (call : Fed Y) → Clear Y l call → Agrees (accept Y l call).next (h ++ entry call ∷ [])
+    accepts : (call : LedgerCall Y) → Clear Y l call → Agrees (accept Y l call).next (h ++ entry call ∷ [])
     accepts (SetUp k) clear = record {
       size = sym (size_more h (entry (SetUp k)));
       out = λ b. sym (none_lost h (entry (SetUp k)) refl b);
@@ -142,7 +142,7 @@ module _ (Y : Symbols) where
     accepts (Renew d work) clear = turn l _ h (entry (Renew d work)) agrees refl refl (λ b. renews (d == b) (l.state.out b)) (λ b a o first last row k. k)
     accepts (Rebuild work) clear = turn l _ h (entry (Rebuild work)) agrees refl refl (λ b o k. refl) (λ b a o first last row k. k)
 
-    pub agrees_on : (call : Fed Y) → Agrees (step Y l call).next (h ++ (call, (step Y l call).reply) ∷ [])
+    pub agrees_on : (call : LedgerCall Y) → Agrees (step Y l call).next (h ++ (call, (step Y l call).reply) ∷ [])
     agrees_on call =
         by_verdict Y l call (λ o. Agrees o.next (h ++ (call, o.reply) ∷ []))
         (λ why. turn l l h (call, (decide Y l (Some why) call).reply) agrees refl refl (λ b o k. k) (λ b a o first last row k. k))

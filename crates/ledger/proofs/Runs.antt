@@ -7,9 +7,9 @@ use Rattle.code.specs.Codes.{full}
 use Rattle.code.specs.Laws.{Same}
 use Rattle.refusal.specs.declared.Refusal.TheVariants.{NotSetUp, Length, ManyOut}
 use Rattle.ledger.specs.Calls.{out_count, size_of}
-use Rattle.ledger.specs.Histories.{Entry, history, newest_write, told}
+use Rattle.ledger.specs.Histories.{Entry, history, newest_write, told_file}
 use Rattle.ledger.specs.Laws.{IsLedger, IsRead, Leaves, LedgerStands, Remembers}
-use Rattle.ledger.specs.Ledgers.{Fed, Ledger, Outcome, contents, final, fresh, replies, step}
+use Rattle.ledger.specs.Ledgers.{LedgerCall, Ledger, Outcome, contents, final, fresh, replies, step}
 use Rattle.ledger.specs.declared.calls.Answer.{Answer}
 use Rattle.ledger.specs.declared.calls.Call.TheVariants.{Read}
 use Rattle.ledger.proofs.Alike.{leaves_alike}
@@ -19,11 +19,11 @@ use Rattle.ledger.proofs.Steps.{Clear, accepted, clear, passed}
 
 module _ (Y : Symbols) where
   -- one call more
-  pub final_more : (l : Ledger Y) (calls : List (Fed Y)) (call : Fed Y) → final Y l (calls ++ call ∷ []) ≡ (step Y (final Y l calls) call).next
+  pub final_more : (l : Ledger Y) (calls : List (LedgerCall Y)) (call : LedgerCall Y) → final Y l (calls ++ call ∷ []) ≡ (step Y (final Y l calls) call).next
   final_more l [] call = refl
   final_more l (first ∷ calls) call = final_more (step Y l first).next calls call
 
-  pub replies_more : (l : Ledger Y) (calls : List (Fed Y)) (call : Fed Y) → replies Y l (calls ++ call ∷ []) ≡ replies Y l calls ++ (step Y (final Y l calls) call).reply ∷ []
+  pub replies_more : (l : Ledger Y) (calls : List (LedgerCall Y)) (call : LedgerCall Y) → replies Y l (calls ++ call ∷ []) ≡ replies Y l calls ++ (step Y (final Y l calls) call).reply ∷ []
   replies_more l [] call = refl
   replies_more l (first ∷ calls) call = ap (λ rs. (step Y l first).reply ∷ rs) (replies_more (step Y l first).next calls call)
 
@@ -38,7 +38,7 @@ module _ (Y : Symbols) where
       rows : l.state.rows ≡ k
       agrees : Agrees Y l h
 
-    lasts : (l : Ledger Y) (h : List (Entry Y)) (calls : List (Fed Y)) → Lasts l h → Lasts (final Y l calls) (h ++ history Y l calls)
+    lasts : (l : Ledger Y) (h : List (Entry Y)) (calls : List (LedgerCall Y)) → Lasts l h → Lasts (final Y l calls) (h ++ history Y l calls)
     lasts l h [] now = subst (Lasts l) (sym (append-nil h)) now
     lasts l h (call ∷ calls) now =
         let e : Entry Y = (call, (step Y l call).reply) in
@@ -51,7 +51,7 @@ module _ (Y : Symbols) where
           agrees = agrees_on Y l h now.agrees now.lawful call;
         }))
 
-    from_fresh : (calls : List (Fed Y)) → Lasts (final Y (fresh Y n k) calls) (history Y (fresh Y n k) calls)
+    from_fresh : (calls : List (LedgerCall Y)) → Lasts (final Y (fresh Y n k) calls) (history Y (fresh Y n k) calls)
     from_fresh calls = lasts (fresh Y n k) [] calls (record {
       lawful = begins n k;
       boxes = refl;
@@ -67,7 +67,7 @@ module _ (Y : Symbols) where
   readable l m is few into long why f = f
 
   -- the law of the newest write, by places
-  by_places : (l : Ledger Y) (h : List (Entry Y)) → Agrees Y l h → (m : ℕ) → l.state.size ≡ Some m → Same (full Y m) (contents Y m l.file) (told Y m h)
+  by_places : (l : Ledger Y) (h : List (Entry Y)) → Agrees Y l h → (m : ℕ) → l.state.size ≡ Some m → Same (full Y m) (contents Y m l.file) (told_file Y m h)
   by_places l h agrees m is b inside a row =
       let size : size_of l.state ≡ m = ap (λ o. unwrap_or o 0) is in
       ap (λ j. contents Y m l.file j a) (omega arith)
@@ -75,14 +75,14 @@ module _ (Y : Symbols) where
       (agrees.newest (suc b) a (omega arith)) (omega arith) row
 
   -- what is left is what the history tells
-  tells : (l : Ledger Y) (h : List (Entry Y)) → IsLedger Y l → Agrees Y l h → (call : Fed Y) (x : Answer) → (step Y l call).reply.answer ≡ Ok x → (m : ℕ) → l.state.size ≡ Some m
-      → Leaves Y m (told Y m h) call (step Y l call).reply.buffer (step Y l call).next.file
+  tells : (l : Ledger Y) (h : List (Entry Y)) → IsLedger Y l → Agrees Y l h → (call : LedgerCall Y) (x : Answer) → (step Y l call).reply.answer ≡ Ok x → (m : ℕ) → l.state.size ≡ Some m
+      → Leaves Y m (told_file Y m h) call (step Y l call).reply.buffer (step Y l call).next.file
   tells l h lawful agrees call x e m is =
       let size : size_of l.state ≡ m = ap (λ o. unwrap_or o 0) is in
-      subst (λ (i : ℕ). l.state.size ≡ Some i → Leaves Y i (told Y i h) call (step Y l call).reply.buffer (step Y l call).next.file) size
+      subst (λ (i : ℕ). l.state.size ≡ Some i → Leaves Y i (told_file Y i h) call (step Y l call).reply.buffer (step Y l call).next.file) size
       (λ is. leaves_alike Y l _ _ (lawful.set_up _ is) (by_places l h agrees _ is) call _ _ (clear Y l call (passed Y l call _ x e)) ((decided Y l lawful call).leaves x e)) is
 
-  remembers : (n k : ℕ) (calls : List (Fed Y)) → Remembers Y n k calls
+  remembers : (n k : ℕ) (calls : List (LedgerCall Y)) → Remembers Y n k calls
   remembers n k calls =
       let all = from_fresh n k calls in
       let l : Ledger Y = final Y (fresh Y n k) calls in

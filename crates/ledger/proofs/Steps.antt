@@ -6,14 +6,14 @@ use Rattle.refusal.specs.declared.Refusal.{Refusal}
 use Rattle.ledger.specs.Calls.{lent, reasons}
 use Rattle.ledger.specs.Fitting.{Fits}
 use Rattle.ledger.specs.Laws.{Least, answers}
-use Rattle.ledger.specs.Ledgers.{Fed, Ledger, Outcome, accept, decide, step}
+use Rattle.ledger.specs.Ledgers.{LedgerCall, Ledger, Outcome, accept, decide, step}
 use Rattle.ledger.specs.declared.calls.Answer.{Answer}
 use Rattle.ledger.specs.declared.calls.Call.TheVariants.{SetUp, Put, Amend, Read, Column, Message, Lose, Renew, Rebuild}
 use Rattle.ledger.proofs.Fitted.{among, are_tests, fits, rises, tests}
 use Rattle.ledger.proofs.Reasons.{earliest_among, earliest_least, earliest_none, judged, least_earliest, none_among}
 
 module _ (Y : Symbols) (l : Ledger Y) where
-  pub answered : (call : Fed Y) → (accept Y l call).reply.answer ≡ Ok (answers Y l call)
+  pub answered : (call : LedgerCall Y) → (accept Y l call).reply.answer ≡ Ok (answers Y l call)
   answered (SetUp k) = refl
   answered (Put file) = refl
   answered (Amend b a x work) = refl
@@ -24,7 +24,7 @@ module _ (Y : Symbols) (l : Ledger Y) where
   answered (Renew b work) = refl
   answered (Rebuild work) = refl
 
-  module _ (call : Fed Y) where
+  module _ (call : LedgerCall Y) where
     -- the verdict shows in the answer
     refused : (o : Option Refusal) (why : Refusal) → (decide Y l o call).reply.answer ≡ Err why → o ≡ Some why
     refused (Some w) why e = cc

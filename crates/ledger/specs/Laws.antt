@@ -8,8 +8,8 @@ use Rattle.refusal.specs.Refusals.{number}
 use Rattle.refusal.specs.declared.Refusal.{Refusal}
 use Rattle.ledger.specs.Calls.{lent, out_count, size_of}
 use Rattle.ledger.specs.Fitting.{Fits}
-use Rattle.ledger.specs.Histories.{Entry, history, is_lost, size_in_force, told}
-use Rattle.ledger.specs.Ledgers.{Fed, Ledger, Outcome, Reply, contents, final, fresh, step}
+use Rattle.ledger.specs.Histories.{Entry, history, is_lost, size_in_force, told_file}
+use Rattle.ledger.specs.Ledgers.{LedgerCall, Ledger, Outcome, Reply, contents, final, fresh, step}
 use Rattle.ledger.specs.declared.calls.Answer.{Answer}
 use Rattle.ledger.specs.declared.calls.Answer.TheVariants.{Done, Count}
 use Rattle.ledger.specs.declared.calls.Call.TheVariants.{SetUp, Put, Amend, Read, Column, Message, Lose, Renew, Rebuild}
@@ -32,7 +32,7 @@ module _ (Y : Symbols) where
 
   -- what the buffer of an accepted call holds afterwards, where the boxes hold the file f of size m, and the ledger then holds the list `file`
   module _ (m : ℕ) (f : ℕ → ℕ → Y.Symbol) where
-    abbrev pub Leaves : Fed Y → List Y.Symbol → List Y.Symbol → Type 0
+    abbrev pub Leaves : LedgerCall Y → List Y.Symbol → List Y.Symbol → Type 0
     Leaves (SetUp k) buffer file = buffer ≡ []
     Leaves (Put sent) buffer file = buffer ≡ sent
     Leaves (Amend b a x work) buffer file = buffer ≡ file
@@ -51,18 +51,18 @@ module _ (Y : Symbols) where
     m = size_of l.state
 
     -- what a call answers that is not declined
-    abbrev pub answers : Fed Y → Answer
+    abbrev pub answers : LedgerCall Y → Answer
     answers (Renew b work) = Count ((3 * m + 1) * 2 ^ (m - 1))
     answers (Rebuild work) = Count (out_count l.state)
     answers call = Done
 
     -- one of those that fit has the least number
-    pub record Least (call : Fed Y) (why : Refusal) : Type 0 where
+    pub record Least (call : LedgerCall Y) (why : Refusal) : Type 0 where
       pub fits : Fits Y l.state why call
       pub least : (other : Refusal) → Fits Y l.state other call → number why ≤ number other
 
     -- what a call comes to
-    pub record Decided (call : Fed Y) (o : Outcome Y) : Type 0 where
+    pub record Decided (call : LedgerCall Y) (o : Outcome Y) : Type 0 where
       -- it is declined by the least number of those that fit, and accepted where none fits
       pub declined : (why : Refusal) → (o.reply.answer ≡ Err why) ↔ Least call why
       pub accepted : ((why : Refusal) → Fits Y l.state why call → ⊥) → o.reply.answer ≡ Ok (answers call)
@@ -77,7 +77,7 @@ module _ (Y : Symbols) where
       pub still_ledger : IsLedger o.next
 
   -- a ledger fed with calls from the beginning, and its history
-  module _ (n k : ℕ) (calls : List (Fed Y)) where
+  module _ (n k : ℕ) (calls : List (LedgerCall Y)) where
     abbrev ledger : Ledger Y
     ledger = final Y (fresh Y n k) calls
 
@@ -88,7 +88,7 @@ module _ (Y : Symbols) where
     pub record IsRead (m : ℕ) (r : Reply Y) : Type 0 where
       pub answer : r.answer ≡ Ok Done
       pub whole : length r.buffer ≡ 3 * m * 2 ^ m
-      pub newest : Same (full Y m) (contents Y m r.buffer) (told Y m past)
+      pub newest : Same (full Y m) (contents Y m r.buffer) (told_file Y m past)
 
     pub record Remembers : Type 0 where
       pub is_ledger : IsLedger ledger
@@ -99,13 +99,13 @@ module _ (Y : Symbols) where
       -- the boxes out are those lost since then, and not brought back since
       pub out : (b : ℕ) → ledger.state.out b ≡ is_lost Y past b
       -- the newest write wins: in the file, in what is read where at most two boxes are out, and in all that a call leaves
-      pub newest : (m : ℕ) → ledger.state.size ≡ Some m → Same (full Y m) (contents Y m ledger.file) (told Y m past)
+      pub newest : (m : ℕ) → ledger.state.size ≡ Some m → Same (full Y m) (contents Y m ledger.file) (told_file Y m past)
       pub read : (m : ℕ) → ledger.state.size ≡ Some m → out_count ledger.state ≤ 2 → (into : List Y.Symbol) → length into ≡ 3 * m * 2 ^ m
           → IsRead m (step Y ledger (Read into)).reply
-      pub leaves : (m : ℕ) → ledger.state.size ≡ Some m → (call : Fed Y) → let o = step Y ledger call in (x : Answer) → o.reply.answer ≡ Ok x
-          → Leaves m (told Y m past) call o.reply.buffer o.next.file
+      pub leaves : (m : ℕ) → ledger.state.size ≡ Some m → (call : LedgerCall Y) → let o = step Y ledger call in (x : Answer) → o.reply.answer ≡ Ok x
+          → Leaves m (told_file Y m past) call o.reply.buffer o.next.file
 
   -- the laws of ledgers
   pub record LedgerStands : Type 0 where
-    pub each_call : (l : Ledger Y) → IsLedger l → (call : Fed Y) → Decided l call (step Y l call)
-    pub each_history : (n k : ℕ) (calls : List (Fed Y)) → Remembers n k calls
+    pub each_call : (l : Ledger Y) → IsLedger l → (call : LedgerCall Y) → Decided l call (step Y l call)
+    pub each_history : (n k : ℕ) (calls : List (LedgerCall Y)) → Remembers n k calls

@@ -18,8 +18,8 @@ listed n f = map f (range_with_len 0 n)
 
 module _ (Y : Symbols) where
   -- a call with the contents of its buffer
-  abbrev pub Fed : Type 0
-  Fed = Call Y.Symbol (List Y.Symbol)
+  abbrev pub LedgerCall : Type 0
+  LedgerCall = Call Y.Symbol (List Y.Symbol)
 
   pub record Ledger : Type 0 where
     pub state : State
@@ -60,41 +60,41 @@ module _ (Y : Symbols) where
     m = size_of l.state
 
     abbrev with_out : (ℕ → Bool) → Ledger
-    with_out out = record { state = record { boxes = l.state.boxes; rows = l.state.rows; size = l.state.size; out = out }; file = l.file }
+    with_out out = record l { state = record l.state { out = out } }
 
     abbrev with_file : List Y.Symbol → Ledger
-    with_file file = record { state = l.state; file = file }
+    with_file file = record l { file = file }
 
     abbrev set_up : ℕ → Ledger
-    set_up k = record { state = record { boxes = l.state.boxes; rows = l.state.rows; size = Some k; out = λ b. false }; file = zeros (file_length k) }
+    set_up k = record { state = record l.state { size = Some k; out = λ b. false }; file = zeros (file_length k) }
 
     -- the file with the symbol x in row a of data box b
     abbrev amended : ℕ → ℕ → Y.Symbol → List Y.Symbol
     amended b a x = slice_set l.file ((b - 1) * column_length m + a) x
 
-    abbrev comes_to : Answer → List Y.Symbol → Ledger → Outcome
-    comes_to answer buffer next = record { reply = record { answer = Ok answer; buffer = buffer }; next = next }
+    abbrev outcome : Answer → List Y.Symbol → Ledger → Outcome
+    outcome answer buffer next = record { reply = record { answer = Ok answer; buffer = buffer }; next = next }
 
     -- what a call comes to that is not declined
-    abbrev pub accept : Fed → Outcome
-    accept (SetUp k) = comes_to Done [] (set_up k)
-    accept (Put file) = comes_to Done file (with_file file)
-    accept (Amend b a x work) = comes_to Done (amended b a x) (with_file (amended b a x))
-    accept (Read into) = comes_to Done l.file l
-    accept (Column b into) = comes_to Done (column_in m l.file b) l
-    accept (Message helper lost into) = comes_to Done (half_in m l.file (lost - 1) (helper - 1)) l
-    accept (Lose b) = comes_to Done [] (with_out (λ d. b == d || l.state.out d))
+    abbrev pub accept : LedgerCall → Outcome
+    accept (SetUp k) = outcome Done [] (set_up k)
+    accept (Put file) = outcome Done file (with_file file)
+    accept (Amend b a x work) = outcome Done (amended b a x) (with_file (amended b a x))
+    accept (Read into) = outcome Done l.file l
+    accept (Column b into) = outcome Done (column_in m l.file b) l
+    accept (Message helper lost into) = outcome Done (half_in m l.file (lost - 1) (helper - 1)) l
+    accept (Lose b) = outcome Done [] (with_out (λ d. b == d || l.state.out d))
     accept (Renew b work) =
-        comes_to (Count ((3 * m + 1) * half_length m)) (halves_in m l.file (b - 1) ++ drop ((3 * m + 1) * half_length m) work)
+        outcome (Count ((3 * m + 1) * half_length m)) (halves_in m l.file (b - 1) ++ drop ((3 * m + 1) * half_length m) work)
         (with_out (λ d. not (b == d) && l.state.out d))
-    accept (Rebuild work) = comes_to (Count (out_count l.state)) l.file (with_out (λ d. false))
+    accept (Rebuild work) = outcome (Count (out_count l.state)) l.file (with_out (λ d. false))
 
     -- and one that is, if it is
-    abbrev pub decide : Option Refusal → Fed → Outcome
+    abbrev pub decide : Option Refusal → LedgerCall → Outcome
     decide (Some why) call = record { reply = record { answer = Err why; buffer = lent call }; next = l }
     decide None call = accept call
 
-    abbrev pub step : Fed → Outcome
+    abbrev pub step : LedgerCall → Outcome
     step call = decide (earliest (reasons Y l.state call)) call
 
   -- with n boxes of k rows, before the first call
@@ -102,10 +102,10 @@ module _ (Y : Symbols) where
   fresh n k = record { state = record { boxes = n; rows = k; size = None; out = λ b. false }; file = [] }
 
   -- the ledger after calls one after another, and what each came to
-  abbrev pub final : Ledger → List Fed → Ledger
+  abbrev pub final : Ledger → List LedgerCall → Ledger
   final l [] = l
   final l (call ∷ calls) = final (step l call).next calls
 
-  abbrev pub replies : Ledger → List Fed → List Reply
+  abbrev pub replies : Ledger → List LedgerCall → List Reply
   replies l [] = []
   replies l (call ∷ calls) = (step l call).reply ∷ replies (step l call).next calls
