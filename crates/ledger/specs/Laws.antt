@@ -1,5 +1,5 @@
 -- What holds of every ledger, whatever calls it was fed: why it declines, what a declined call leaves, and what the history says of the rest. Assumes nothing.
-use Rattle.std.specs.Prelude.{◌≡◌, ℕ, ◌+◌, ◌-◌, ◌*◌, ◌^◌, ◌≤◌, ◌↔◌, true, false, List, [], length, drop, Some, None, Ok, Err}
+use Rattle.std.specs.Prelude.{◌≡◌, ℕ, ◌+◌, ◌-◌, ◌*◌, ◌^◌, ◌≤◌, ◌↔◌, true, List, [], length, drop, Some, None, Ok, Err}
 use Rattle.field.specs.Symbols.{Symbols}
 use Rattle.code.specs.Codes.{HasHalves, column, full, half_for}
 use Rattle.code.specs.Laws.{Same}
@@ -28,7 +28,8 @@ module _ (Y : Symbols) where
   pub record IsLedger (l : Ledger Y) : Type 0 where
     pub set_up : (m : ℕ) → l.state.size ≡ Some m → IsSetUp l m
     pub numbered : (b : ℕ) → l.state.out b ≡ true → (1 ≤ b) × (b ≤ l.state.boxes)
-    pub empty : l.state.size ≡ None → (b : ℕ) → l.state.out b ≡ false
+    -- before it is set up it is as it was made
+    pub fresh : l.state.size ≡ None → l ≡ fresh Y l.state.boxes l.state.rows
 
   -- what the buffer of an accepted call holds afterwards, where the boxes hold the file f of size m, and the ledger then holds the list `file`
   module _ (m : ℕ) (f : ℕ → ℕ → Y.Symbol) where
