@@ -108,14 +108,14 @@ module _ (Y : Symbols) where
       other_out out some numbered = record {
         set_up = λ k e. let s = lawful.set_up k e in record { some = s.some; most = s.most; marks = s.marks; boxes = s.boxes; rows = s.rows; whole = s.whole };
         numbered = numbered;
-        fresh = λ e. absurd (some e);
+        as_made = λ e. absurd (some e);
       }
 
       other_file : (file : List Y.Symbol) → (l.state.size ≡ None → ⊥) → length file ≡ 3 * m * 2 ^ m → IsLedger Y (record { state = l.state; file = file })
       other_file file some e = record {
         set_up = λ k is. let s = lawful.set_up k is in record { some = s.some; most = s.most; marks = s.marks; boxes = s.boxes; rows = s.rows; whole = e ∙ ap (λ o. 3 * unwrap_or o 0 * 2 ^ unwrap_or o 0) is };
         numbered = lawful.numbered;
-        fresh = λ e. absurd (some e);
+        as_made = λ e. absurd (some e);
       }
 
       -- a set up that no refusal fits
@@ -134,7 +134,7 @@ module _ (Y : Symbols) where
               whole = length-replicate (3 * k * 2 ^ k) Y.ring.zero;
             });
             numbered = λ b e. absurd (false≢true e);
-            fresh = λ e. absurd (none-some k (sym e));
+            as_made = λ e. absurd (none-some k (sym e));
           }
 
       lost : (b : ℕ) → Clear Y l (Lose b) → (d : ℕ) → (b == d || l.state.out d) ≡ true → (1 ≤ d) × (d ≤ l.state.boxes)

@@ -28,7 +28,7 @@ module _ (Y : Symbols) where
   replies_more l (first ∷ calls) call = ap (λ rs. (step Y l first).reply ∷ rs) (replies_more (step Y l first).next calls call)
 
   pub begins : (n k : ℕ) → IsLedger Y (fresh Y n k)
-  begins n k = record { set_up = λ m e. absurd (none-some m e); numbered = λ b e. absurd (false≢true e); fresh = λ e. refl }
+  begins n k = record { set_up = λ m e. absurd (none-some m e); numbered = λ b e. absurd (false≢true e); as_made = λ e. refl }
 
   module _ (n k : ℕ) where
     -- what lasts over the calls

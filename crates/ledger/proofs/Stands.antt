@@ -46,7 +46,7 @@ module _ (Y : Symbols) (l : Ledger Y) where
     accepted = λ clear. ap (λ (o : Outcome Y). o.reply.answer) (accepted Y l call clear) ∙ answered Y l call;
     unchanged = unchanged Y l call _;
     leaves = λ x. by_verdict Y l call (λ o. o.reply.answer ≡ Ok x → Leaves Y (size_of l.state) (contents Y (size_of l.state) l.file) call o.reply.buffer o.next.file) (λ why e. cc) (λ clear e. leaves Y l call);
-    length = by_verdict Y l call (λ o. length o.reply.buffer ≡ length (lent call)) (λ why. refl) (lengths Y l lawful call);
+    same_length = by_verdict Y l call (λ o. length o.reply.buffer ≡ length (lent call)) (λ why. refl) (lengths Y l lawful call);
     boxes = boxes_stay call;
     rows = rows_stay call;
     still_ledger = still_ledger lawful call;

@@ -1,4 +1,4 @@
--- Histories: calls with what each came to, the oldest first, and what follows from them by the newest that matters. Assumes nothing.
+-- Histories: calls with what each came to, the oldest first, and what the newest of them say of sizes, boxes and symbols. Assumes nothing.
 use Rattle.std.specs.Prelude.{ℕ, suc, ◌-◌, Bool, true, false, ◌&&◌, ◌==◌, List, [], ◌∷◌, Option, Some, None, is_ok, is_some, unwrap_or, if◌then◌else◌}
 use Rattle.std.specs.List.{after_last, zip}
 use Rattle.std.specs.Option.{option_or}

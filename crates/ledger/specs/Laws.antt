@@ -1,4 +1,4 @@
--- What holds of every ledger, whatever calls it was fed: why it declines, what a declined call leaves, and what the history says of the rest. Assumes nothing.
+-- What holds of every ledger, whatever calls it was fed: why it declines, what a call leaves, and what the history says of the ledger. Assumes nothing.
 use Rattle.std.specs.Prelude.{◌≡◌, ℕ, ◌+◌, ◌-◌, ◌*◌, ◌^◌, ◌≤◌, ◌↔◌, true, List, [], length, drop, Some, None, Ok, Err}
 use Rattle.field.specs.Symbols.{Symbols}
 use Rattle.code.specs.Codes.{HasHalves, column, full, half_for}
@@ -29,9 +29,9 @@ module _ (Y : Symbols) where
     pub set_up : (m : ℕ) → l.state.size ≡ Some m → IsSetUp l m
     pub numbered : (b : ℕ) → l.state.out b ≡ true → (1 ≤ b) × (b ≤ l.state.boxes)
     -- before it is set up it is as it was made
-    pub fresh : l.state.size ≡ None → l ≡ fresh Y l.state.boxes l.state.rows
+    pub as_made : l.state.size ≡ None → l ≡ fresh Y l.state.boxes l.state.rows
 
-  -- what the buffer of an accepted call holds afterwards, where the boxes hold the file f of size m, and the ledger then holds the list `file`
+  -- What the buffer of an accepted call holds afterwards: f is the file by boxes and rows, before the call, and `file` the list of its symbols after it.
   module _ (m : ℕ) (f : ℕ → ℕ → Y.Symbol) where
     abbrev pub Leaves : LedgerCall Y → List Y.Symbol → List Y.Symbol → Type 0
     Leaves (SetUp k) buffer file = buffer ≡ []
@@ -69,10 +69,10 @@ module _ (Y : Symbols) where
       pub accepted : ((why : Refusal) → Fits Y l.state why call → ⊥) → o.reply.answer ≡ Ok (answers call)
       -- a declined call changes nothing
       pub unchanged : (why : Refusal) → o.reply.answer ≡ Err why → (o.reply.buffer ≡ lent call) × (o.next ≡ l)
-      -- an accepted one leaves what it should
+      -- an accepted one leaves this in its buffer
       pub leaves : (x : Answer) → o.reply.answer ≡ Ok x → Leaves m (contents Y m l.file) call o.reply.buffer o.next.file
-      -- no buffer changes its length, and no shelf its boxes and rows
-      pub length : length o.reply.buffer ≡ length (lent call)
+      -- no buffer changes its length, and no boxes or rows come or go
+      pub same_length : length o.reply.buffer ≡ length (lent call)
       pub boxes : o.next.state.boxes ≡ l.state.boxes
       pub rows : o.next.state.rows ≡ l.state.rows
       pub still_ledger : IsLedger o.next

@@ -89,7 +89,7 @@ module _ (Y : Symbols) where
         (with_out (λ d. not (b == d) && l.state.out d))
     accept (Rebuild work) = outcome (Count (out_count l.state)) l.file (with_out (λ d. false))
 
-    -- and one that is, if it is
+    -- what it comes to by the verdict on it: the refusal that declines it, if there is one
     abbrev pub decide : Option Refusal → LedgerCall → Outcome
     decide (Some why) call = record { reply = record { answer = Err why; buffer = lent call }; next = l }
     decide None call = accept call
