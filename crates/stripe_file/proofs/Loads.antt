@@ -1,8 +1,12 @@
 -- What reading the columns of a stripe leads to. Assumes nothing.
-use Rattle.std.proofs.Common.{◌≡◌, ℕ, zero, suc, ◌+◌, ◌*◌, ◌^◌, ◌<◌, Bool, true, false, if◌then◌else◌, List, None, length, sym, refl, ap, ap₂, ◌∙◌, subst, add-one, arith, tests}
+use Rattle.std.proofs.Common.{◌≡◌, ℕ, zero, suc, ◌+◌, ◌*◌, ◌^◌, ◌<◌, Bool, true, false, if◌then◌else◌, List, None, ◌-◌, drop, length, take, sym, refl, ap, ap₂, ◌∙◌, subst, add-one, arith, tests}
 use Rattle.std.proofs.lemmas.Bool.{cond-true}
 use Rattle.field.specs.Symbols.{Symbols}
 use Rattle.code.specs.Codes.{Code, Column, File, data_boxes, full}
+use Rattle.code.specs.Contents.{at, parts}
+use Rattle.decoding.specs.Steps.{Replaced}
+use Rattle.decoding.proofs.Parts.{lent_long, lent_replaced}
+use borrow.Rule.Slice.PartMut.{put_mid}
 use Rattle.code.specs.Standing.{Counts, FileOf, standing}
 use Rattle.missing.specs.Missing.{Found, present}
 use Rattle.missing.specs.declared.Missing.{Missing}
@@ -42,6 +46,14 @@ module _ {A : Type 0} (c : Code A) (p q : ℕ → Bool) (like : (b : ℕ) → b 
 
       here : (b : ℕ) → b < data_boxes c + 2 → Counts c p b → Counts c q b
       here b l k = (sym (like b l) ∙ k.0, omega (arith, as_many b l, k.1))
+
+-- the column of a box, read into a place of a file
+pub place_read : (Y : Symbols) {T : Type 0} (v : T → Y.Symbol) (m from b x rows : ℕ) (s : Meaning T) (file lent : List T) → rows ≡ 2 ^ m → length file ≡ 3 * m * 2 ^ m → x < 3 * m → has_stripe m from s ≡ true → stands s b ≡ true
+    → length lent ≡ length (take ((x + 1) * rows - x * rows) (drop (x * rows) file)) → lent ≡ rows_read s (b + 1) from (take ((x + 1) * rows - x * rows) (drop (x * rows) file))
+    → Replaced (2 ^ m) x (parts Y v (2 ^ m) file) (held Y v m from s b) (parts Y v (2 ^ m) (put_mid (x * rows) ((x + 1) * rows - x * rows) file lent))
+place_read Y v m from b x rows s file lent er whole inside there stand long is =
+    lent_replaced Y v (2 ^ m) (3 * m) x rows er file whole inside lent _ long
+    (λ a l. ap (λ ys. at Y v ys a) (is ∙ column_read m from b s _ there stand (lent_long Y v (2 ^ m) (3 * m) x rows er file whole inside)))
 
 -- what was found, and what was read then, are of the shelf as it was before
 module _ (Y : Symbols) {T : Type 0} (v : T → Y.Symbol) (m from : ℕ) (s s1 s2 : Meaning T) (e1 : s1 ≡ s) (e2 : s2 ≡ s1) (missing : Missing) (boxes : ℕ) (eb : boxes ≡ 3 * m) where

@@ -1,5 +1,5 @@
 -- What a search over the boxes of a shelf tells. Assumes nothing.
-use Rattle.std.proofs.Common.{◌≡◌, ℕ, zero, suc, ◌+◌, ◌<◌, ◌≤◌, Bool, true, false, not, None, Some, refl, sym, ap, ◌∙◌, subst, inl, inr, arith, le-ltb, lt-ltb, true≢false}
+use Rattle.std.proofs.Common.{◌≡◌, ℕ, zero, suc, ◌+◌, ◌<◌, ◌≤◌, Bool, true, false, None, Some, refl, sym, ap, ◌∙◌, subst, inl, inr, arith, le-ltb, lt-ltb, add-one, true≢false}
 use Rattle.std.proofs.lemmas.Bool.{cases_order, cond-true, cond-false}
 use Rattle.std.proofs.lemmas.Bool.Decides.{nat_tests}
 use Rattle.boxes.specs.Out.{many_out}
@@ -7,7 +7,7 @@ use Rattle.code.specs.Standing.{standing}
 use Rattle.missing.specs.Missing.{AllStand, LowestOut}
 use Rattle.missing.proofs.Counts.{none_count, one_count, two_count, three_out}
 use Rattle.refusal.specs.declared.Refusal.TheVariants.{ManyOut}
-use Rattle.shelf.specs.Meaning.{Meaning}
+use Rattle.shelf.specs.Meaning.{Meaning, is_standing}
 use Rattle.stripe.specs.Stripes.{stands}
 use Rattle.stripe_file.specs.Reasons.{some_out}
 
@@ -33,10 +33,6 @@ module _ {T : Type 0} (s : Meaning T) (n : ℕ) where
     third_out z q =
         sym (cond-true _ _ _ (lt-ltb (standing (stands s) n + 2) n (three_out (stands s) n x y z o second (subst (λ k. LowestOut (stands k) (y + 1) n z) (e2 ∙ e1) q))))
 
-pub un_not : (v : Bool) → not v ≡ false → v ≡ true
-un_not true e = refl
-un_not false e = absurd (true≢false e)
-
 -- one that is found is found among more
 module _ (asked stand : ℕ → Bool) where
   more_out : (n b : ℕ) → b < n → asked b ≡ true → stand b ≡ false → some_out asked stand n ≡ true
@@ -48,9 +44,6 @@ module _ (asked stand : ℕ → Bool) where
         | inr (inr k) ↦ absurd (omega arith)
       ]
 
-  pub found_out : (n b : ℕ) (answer : Bool) → b < n → asked b ≡ true → answer ≡ stand b → answer ≡ false → true ≡ some_out asked stand n
-  found_out n b answer l e h r = sym (more_out n b l e (sym h ∙ r))
-
   -- and where none is found, each stands
   pub all_there : (n : ℕ) → some_out asked stand n ≡ false → (b : ℕ) → b < n → asked b ≡ true → stand b ≡ true
   all_there n none b l e = by (stand b) refl
@@ -58,3 +51,11 @@ module _ (asked stand : ℕ → Bool) where
       by : (v : Bool) → stand b ≡ v → v ≡ true
       by true h = refl
       by false h = absurd (true≢false (sym (more_out n b l e h) ∙ none))
+
+-- a box of a shelf that is found
+module _ {T : Type 0} (s s1 : Meaning T) (n b : ℕ) (standing : Bool) (e : s1 ≡ s) (l : b < n) (answer : standing ≡ is_standing s1 (b + 1)) (out : standing ≡ false) where
+  not_there : stands s b ≡ false
+  not_there = ap (is_standing s) (sym (add-one b)) ∙ sym (ap (λ k. is_standing k (b + 1)) e) ∙ sym answer ∙ out
+
+  pub found_asked : (asked : ℕ → Bool) → asked b ≡ true → true ≡ some_out asked (stands s) n
+  found_asked asked is = sym (more_out asked (stands s) n b l is not_there)

@@ -4,7 +4,7 @@ ghost use Rattle.boxes.specs.Out.{many_out};
 ghost use Rattle.code.specs.Codes.{full};
 ghost use Rattle.code.specs.Contents.{parts};
 ghost use Rattle.code.specs.Standing.{FileOf};
-ghost use Rattle.decoding.specs.Missing.{Sourced};
+ghost use Rattle.decoding.specs.Missing.{FilledIn, Sourced};
 ghost use Rattle.decoding.specs.Steps.{Replaced};
 ghost use Rattle.missing.specs.Missing.{Found, are_boxes as boxes_of, no_boxes, present};
 ghost use Rattle.refusal.specs.Refusals.{earliest, refusal, wrong_lengths};
@@ -21,6 +21,7 @@ use shelf_rows::read_rows;
 use stripe::{Stripe, on_shelf};
 
 // Reads what the box in place b holds of a stripe into place x of a file.
+#[tactic(auto, using(crate::proofs::Loads::place_read))]
 fn read_place<F: Sums, S: Shelf<Symbol = F>>(
     shelf: &mut S,
     stripe: &Stripe<F>,
@@ -67,8 +68,17 @@ fn read_sources<F: Sums, S: Shelf<Symbol = F>>(
     }
 }
 
+// Fills in the columns of missing data boxes, where nothing can be refused.
+fn fill_in<F: Quotients>(stripe: &Stripe<F>, missing: Missing, file: &mut [F])
+    requires whole { let m = stripe.now.cabinet.size.m in length file.old ≡ 3 * m * 2 ^ m }
+    requires boxes { boxes_of (3 * stripe.now.cabinet.size.m + 2) missing ≡ true }
+    ensures { let m = stripe.now.cabinet.size.m in let columns = parts F.symbols F.value (2 ^ m) in FilledIn (full F.symbols m) missing (columns file.old) (columns file.new) }
+{
+    fill(stripe.cabinet.size.m, missing, file).unwrap();
+}
+
 // Reads the file of a stripe by the boxes that are not listed as missing.
-pub(crate) fn load<F: Quotients, S: Shelf<Symbol = F>>(
+fn load<F: Quotients, S: Shelf<Symbol = F>>(
     shelf: &mut S,
     stripe: &Stripe<F>,
     missing: Missing,
@@ -83,7 +93,7 @@ pub(crate) fn load<F: Quotients, S: Shelf<Symbol = F>>(
     ensures lender { S.buffers shelf.new ≡ S.buffers shelf.old }
 {
     read_sources(shelf, stripe, missing, file);
-    fill(stripe.cabinet.size.m, missing, file).unwrap();
+    fill_in(stripe, missing, file);
 }
 
 // Reads the file of a stripe with some boxes left aside, at most two, whether

@@ -49,6 +49,7 @@ pub fn find<S: Shelf>(shelf: &mut S, n: usize) -> Result<Missing, Refusal>
 }
 
 // Is one of the first n boxes out that is listed?
+#[tactic(auto, using(crate::proofs::Searches::found_asked))]
 pub fn listed_out<S: Shelf>(shelf: &mut S, n: usize, missing: Missing) -> bool
     ensures answer { result ≡ some_out (λ b. not (present missing b)) (stands (S.meaning shelf.old)) n }
     ensures stays { S.meaning shelf.new ≡ S.meaning shelf.old }
@@ -63,6 +64,7 @@ pub fn listed_out<S: Shelf>(shelf: &mut S, n: usize, missing: Missing) -> bool
 }
 
 // Is one of the first n boxes out that is not listed?
+#[tactic(auto, using(crate::proofs::Searches::found_asked))]
 pub fn other_out<S: Shelf>(shelf: &mut S, n: usize, missing: Missing) -> bool
     ensures answer { result ≡ some_out (present missing) (stands (S.meaning shelf.old)) n }
     ensures stays { S.meaning shelf.new ≡ S.meaning shelf.old }
