@@ -1,0 +1,29 @@
+-- Lemmas on what boxes hold in the rows of a stripe. Assumes nothing.
+use Rattle.std.proofs.Common.{◌≡◌, ℕ, suc, ◌+◌, ◌-◌, ◌*◌, ◌^◌, ◌<◌, ◌≤◌, Bool, true, List, map, Some, length, sym, ap, ◌∙◌, arith, tests}
+use Rattle.std.proofs.lemmas.Option.{get_or_from_slice_get, slice_get-map}
+use Rattle.std.specs.Option.{option_map}
+use Rattle.field.specs.Symbols.{Symbols}
+use Rattle.code.specs.Contents.{at}
+use Rattle.shelf.specs.Meaning.{IsShelf, Meaning, column, has_row, is_standing, symbol_at, symbol_of}
+use Rattle.shelf_rows.specs.Rows.{has_rows, rows_at, rows_of}
+use Rattle.shelf_rows.proofs.Rows.{row_read}
+use Rattle.stripe.specs.Stripes.{has_stripe, held, stands}
+
+module _ (Y : Symbols) {T : Type 0} (value : T → Y.Symbol) where
+  -- what stands in a row that is there
+  pub at_row : (s : Meaning T) (b from n a : ℕ) (x : T) → a < n → symbol_at s b (from + a) ≡ Some x → at Y value (rows_at s b from n) a ≡ value x
+  at_row s b from n a x h e =
+      get_or_from_slice_get (map value (rows_at s b from n)) a (value x) Y.ring.zero
+      (slice_get-map value (rows_at s b from n) a ∙ ap (option_map value) (row_read s b from n a h ∙ e))
+
+  -- a box's column is all that counts
+  pub held_same : (m from : ℕ) (s t : Meaning T) (b : ℕ) → column s (suc b) ≡ column t (suc b) → held Y value m from s b ≡ held Y value m from t b
+  held_same m from s t b e = ap (λ c. at Y value (rows_of c from (2 ^ m))) e
+
+  -- by the box's number
+  pub held_number : (m from : ℕ) (s : Meaning T) (b : ℕ) → 1 ≤ b → held Y value m from s (b - 1) ≡ at Y value (rows_at s b from (2 ^ m))
+  held_number m from s b h = let e : suc (b - 1) ≡ b = omega arith in ap (λ d. at Y value (rows_at s d from (2 ^ m))) e
+
+-- a box that stands has the rows of the stripe
+pub stripe_rows : {T : Type 0} (m from : ℕ) (s : Meaning T) (b : ℕ) → has_stripe m from s ≡ true → is_standing s b ≡ true → has_rows s b from (2 ^ m) ≡ true
+stripe_rows m from s b h e = grind (arith, tests)
