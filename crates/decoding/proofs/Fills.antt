@@ -1,15 +1,16 @@
 -- What filling in leads to: the file has the columns of all boxes but two, and it is the one file that has them. Assumes nothing.
-use Rattle.std.proofs.Common.{◌≡◌, ℕ, suc, ◌+◌, ◌^◌, ◌<◌, ◌≤◌, ◌≢◌, Bool, nat_lt, sym, refl, ap, ◌∙◌, subst, inl, inr, arith, le-ltb, lt-ltb}
-use Rattle.std.proofs.lemmas.Bool.{cases_eq, cond-true, cond-false}
-use Rattle.code.specs.Codes.{Code, Column, File, Alike, data_boxes, parity1, parity2}
+use Rattle.std.proofs.Common.{◌≡◌, ℕ, suc, ◌+◌, ◌^◌, ◌<◌, ◌≤◌, ◌≢◌, Bool, nat_lt, sym, ap, ◌∙◌, inl, inr, arith, lt-ltb}
+use Rattle.std.proofs.lemmas.Bool.{cases_eq, cond-true}
+use Rattle.code.specs.Codes.{Code, Column, File, Alike, data_boxes}
 use Rattle.code.specs.Laws.{HasColumns, Laws}
 use Rattle.code.specs.Standing.{FileOf}
-use Rattle.code.proofs.Columns.{column_data, has_columns}
+use Rattle.code.proofs.Columns.{column_data}
 use Rattle.code.proofs.Sums.{if_same, if_other}
-use Rattle.decoding.specs.Missing.{KeptStanding, Found, aside, held}
-use Rattle.decoding.specs.declared.missing.Missing.{Missing}
-use Rattle.decoding.specs.declared.missing.Missing.TheVariants.{Nothing, One, Two}
-use Rattle.decoding.proofs.Counts.{aside_first, first_apart, most_below}
+use Rattle.missing.specs.Missing.{Found, aside, source}
+use Rattle.decoding.specs.Missing.{KeptStanding, held}
+use Rattle.missing.specs.declared.Missing.{Missing}
+use Rattle.missing.specs.declared.Missing.TheVariants.{Nothing, One, Two}
+use Rattle.missing.proofs.Counts.{aside_first, first_apart, most_below}
 
 module _ {A : Type 0} (c : Code A) where
   abbrev n : ℕ
@@ -25,24 +26,10 @@ module _ {A : Type 0} (c : Code A) where
     held_data : (b : ℕ) → b < n → all b ≡ f b
     held_data b l = cond-true (nat_lt b n) _ _ (lt-ltb b n l)
 
-    held_first : all n ≡ first
-    held_first = cond-false (nat_lt n n) _ _ (le-ltb n n (omega arith)) ∙ if_same n n refl _ _
-
-    held_second : all (suc n) ≡ second
-    held_second = cond-false (nat_lt (suc n) n) _ _ (le-ltb (suc n) n (omega arith)) ∙ if_other (suc n) n (λ o. omega arith) _ _
-
-    alike_to : (C E F : Column c) → E ≡ F → Alike c C F → Alike c C E
-    alike_to C E F e h = subst (Alike c C) (sym e) h
-
-    filled : (x y : ℕ) (g : File c) → ((b : ℕ) → b < n → b ≢ x → b ≢ y → Alike c (g b) (f b)) → (n ≢ x → n ≢ y → Alike c (parity1 c g) first)
-        → (suc n ≢ x → suc n ≢ y → Alike c (parity2 c g) second) → HasColumns c x y g all
-    filled x y g kept one two =
-        has_columns c x y g all (λ b l h k. alike_to (g b) (all b) (f b) (held_data b l) (kept b l h k)) (λ h k. alike_to (parity1 c g) (all n) first held_first (one h k))
-        (λ h k. alike_to (parity2 c g) (all (suc n)) second held_second (two h k))
-
-    -- where no data box is out
-    pub none_filled : HasColumns c n (suc n) f all
-    none_filled = filled n (suc n) f (λ b l h k a m. refl) (λ h k. absurd (h refl)) (λ h k. absurd (k refl))
+    -- where the columns that tell the missing ones have been brought, up to place k
+    pub record Brought (missing : Missing) (k : ℕ) (h : File c) : Type 0 where
+      pub done : (b : ℕ) → b < k → b < n → Alike c (h b) (all (source n missing b))
+      pub rest : (b : ℕ) → k ≤ b → b < n → Alike c (h b) (f b)
 
   -- the boxes that are left aside are two boxes
   aside_inside : (s : ℕ → Bool) (found : Missing) → Found s (n + 2) found → ((aside n found).0 < n + 2) × ((aside n found).1 < n + 2) × ((aside n found).0 ≢ (aside n found).1)
@@ -70,5 +57,7 @@ module _ {A : Type 0} (c : Code A) where
 
   -- each data box that stands is one of the first that do
   pub kept_of : (s : ℕ → Bool) (f g : File c) (first second : Column c) → FileOf c s (held c f first second) g → KeptStanding c s f g
-  kept_of s f g first second of b l e a k =
-      sym (ap (λ C. C a) (column_data c g b l)) ∙ of.has b (omega arith) (e, omega (arith, most_below s b)) a k ∙ ap (λ C. C a) (held_data f first second b l)
+  kept_of s f g first second of = record {
+    each = λ b l e a k.
+        sym (ap (λ C. C a) (column_data c g b l)) ∙ of.has b (omega arith) (e, omega (arith, most_below s b)) a k ∙ ap (λ C. C a) (held_data f first second b l);
+  }

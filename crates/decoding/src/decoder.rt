@@ -2,19 +2,19 @@
 ghost use Rattle.std.specs.Prelude.{◌≡◌, ℕ, ◌+◌, ◌*◌, ◌^◌, ◌<◌, suc, true, false, if◌then◌else◌, ◌==◌, [], ◌∷◌, length, IfOk, MatchResult};
 ghost use Rattle.code.specs.Codes.{full, parity1, parity2};
 ghost use Rattle.code.specs.Contents.{Holds, at, parts};
-ghost use Rattle.code.specs.Laws.{HasColumns};
 ghost use Rattle.code.specs.Standing.{FileOf};
 ghost use Rattle.columns.specs.Parities.{parity as parity_of};
 ghost use Rattle.refusal.specs.Refusals.{earliest, few_marks, refusal, wrong_lengths, wrong_size};
-ghost use Rattle.decoding.specs.Missing.{KeptStanding, held, many_out, stands, wrong_boxes};
+ghost use Rattle.missing.specs.Missing.{Found, many_out, present, stands, wrong_boxes};
+ghost use Rattle.decoding.specs.Missing.{KeptStanding, Sourced, held};
 ghost use Rattle.decoding.specs.Steps.{Replaced};
 
-use crate::filling::{by_both, by_first, by_second};
-use crate::missing::{Missing, all_numbered, find, is_out};
+use crate::filling::fill_missing;
 use boxes::Cabinet;
 use code::code_stands;
 use columns::{Parity, parity_column};
 use field::{Quotients, Sums};
+use missing::{Missing, all_numbered, find_listed};
 use refusal::{Refusal, fitting};
 
 // Copies a column into place x of a file.
@@ -28,81 +28,53 @@ fn place<F: Sums>(cabinet: &Cabinet<F>, x: usize, column: &[F], file: &mut [F])
     file[x * rows..(x + 1) * rows].copy_from_slice(column);
 }
 
-// One box is out, in place x, and the second parity box is left aside: if it
-// holds data, the first parity tells its column.
-fn fill_one<F: Sums>(cabinet: &Cabinet<F>, x: usize, first: &[F], file: &mut [F])
-    requires whole { let m = cabinet.now.size.m in length file.old ≡ 3 * m * 2 ^ m }
-    requires rows { length first.now ≡ 2 ^ cabinet.now.size.m }
-    requires inside { x < 3 * cabinet.now.size.m + 2 }
-    ensures { let m = cabinet.now.size.m in let columns = parts F.symbols F.value (2 ^ m) in let c = full F.symbols m in (second : ℕ → F.symbols.Symbol) → HasColumns c (if x == suc (3 * m) then 3 * m else x) (suc (3 * m)) (columns file.new) (held c (columns file.old) (at F.symbols F.value first.now) second) }
-{
-    if x < cabinet.size.boxes() {
-        place(cabinet, x, first, file);
-        by_first(cabinet, x, file);
-    }
-}
-
-// Two boxes are out, in the places x and y, the lower first.
-fn fill_two<F: Quotients>(
-    cabinet: &Cabinet<F>,
-    x: usize,
-    y: usize,
-    first: &[F],
-    second: &[F],
-    file: &mut [F],
-)
+// Brings the parity columns that tell missing data columns into their places.
+fn bring<F: Sums>(cabinet: &Cabinet<F>, missing: Missing, first: &[F], second: &[F], file: &mut [F])
     requires whole { let m = cabinet.now.size.m in length file.old ≡ 3 * m * 2 ^ m }
     requires first_rows { length first.now ≡ 2 ^ cabinet.now.size.m }
     requires second_rows { length second.now ≡ 2 ^ cabinet.now.size.m }
-    requires order { x < y }
-    requires last { y < 3 * cabinet.now.size.m + 2 }
-    ensures { let m = cabinet.now.size.m in let columns = parts F.symbols F.value (2 ^ m) in let c = full F.symbols m in HasColumns c x y (columns file.new) (held c (columns file.old) (at F.symbols F.value first.now) (at F.symbols F.value second.now)) }
+    ensures { let m = cabinet.now.size.m in let columns = parts F.symbols F.value (2 ^ m) in let c = full F.symbols m in Sourced c missing (held c (columns file.old) (at F.symbols F.value first.now) (at F.symbols F.value second.now)) (columns file.new) }
 {
     let boxes = cabinet.size.boxes();
-    if y < boxes {
-        place(cabinet, x, first, file);
-        place(cabinet, y, second, file);
-        by_both(cabinet, x, y, file);
-    } else if x < boxes {
-        if y == boxes {
-            place(cabinet, x, second, file);
-            by_second(cabinet, x, file);
-        } else {
-            place(cabinet, x, first, file);
-            by_first(cabinet, x, file);
+    for b in 0..boxes {
+        let told = missing.source(&cabinet.size, b);
+        if told == boxes {
+            place(cabinet, b, first, file);
+        } else if told == boxes + 1 {
+            place(cabinet, b, second, file);
         }
     }
 }
 
-// Fills in the data columns of the boxes that are out. Refused, with nothing
-// written, where three or more are out.
+// Fills in the data columns of the boxes that are out, and tells which are.
+// Refused, with nothing written, where three or more are out.
 fn fill_data<F: Quotients>(
     cabinet: &Cabinet<F>,
     out: &[usize],
     first: &[F],
     second: &[F],
     file: &mut [F],
-) -> Result<(), Refusal>
+) -> Result<Missing, Refusal>
     requires whole { let m = cabinet.now.size.m in length file.old ≡ 3 * m * 2 ^ m }
     requires first_rows { length first.now ≡ 2 ^ cabinet.now.size.m }
     requires second_rows { length second.now ≡ 2 ^ cabinet.now.size.m }
     ensures answer { refusal result ≡ many_out (3 * cabinet.now.size.m + 2) out.now }
+    ensures missing { IfOk result (Found (stands out.now) (3 * cabinet.now.size.m + 2)) }
+    ensures kept { let m = cabinet.now.size.m in let columns = parts F.symbols F.value (2 ^ m) in IfOk result (λ _. KeptStanding (full F.symbols m) (stands out.now) (columns file.old) (columns file.new)) }
     ensures file { let m = cabinet.now.size.m in let columns = parts F.symbols F.value (2 ^ m) in let c = full F.symbols m in MatchResult result (λ _. FileOf c (stands out.now) (held c (columns file.old) (at F.symbols F.value first.now) (at F.symbols F.value second.now)) (columns file.new)) (λ _. file.new ≡ file.old) }
 {
     // By the code's laws there is exactly one such file.
     code_stands::<F>();
-    match find(cabinet.size.boxes() + 2, out)? {
-        Missing::Nothing => {}
-        Missing::One(x) => fill_one(cabinet, x, first, file),
-        Missing::Two(x, y) => fill_two(cabinet, x, y, first, second, file),
-    }
-    Ok(())
+    let missing = find_listed(cabinet.size.boxes() + 2, out)?;
+    bring(cabinet, missing, first, second, file);
+    fill_missing(cabinet, missing, file);
+    Ok(missing)
 }
 
-// Encodes a parity column again if its box, in place b, is out.
+// Encodes a parity column again if its box, in place b, is missing.
 fn fill_parity<F: Sums>(
     cabinet: &Cabinet<F>,
-    out: &[usize],
+    missing: Missing,
     b: usize,
     which: Parity,
     file: &[F],
@@ -110,11 +82,10 @@ fn fill_parity<F: Sums>(
 )
     requires whole { let m = cabinet.now.size.m in length file.now ≡ 3 * m * 2 ^ m }
     requires rows { length column.old ≡ 2 ^ cabinet.now.size.m }
-    requires inside { b < 20 }
-    ensures out { let m = cabinet.now.size.m in stands out.now b ≡ false → Holds F.symbols F.value (2 ^ m) column.new (parity_of which (full F.symbols m) (parts F.symbols F.value (2 ^ m) file.now)) }
-    ensures kept { stands out.now b ≡ true → column.new ≡ column.old }
+    ensures out { let m = cabinet.now.size.m in present missing b ≡ false → Holds F.symbols F.value (2 ^ m) column.new (parity_of which (full F.symbols m) (parts F.symbols F.value (2 ^ m) file.now)) }
+    ensures kept { present missing b ≡ true → column.new ≡ column.old }
 {
-    if is_out(out, b) {
+    if missing.lists(b) {
         parity_column(cabinet.size.m, which, file, column).unwrap();
     }
 }
@@ -147,8 +118,8 @@ pub fn decode<F: Quotients>(
         (second.len(), rows),
     ])?;
     all_numbered(boxes + 2, out)?;
-    fill_data(&cabinet, out, first, second, file)?;
-    fill_parity(&cabinet, out, boxes, Parity::First, file, first);
-    fill_parity(&cabinet, out, boxes + 1, Parity::Second, file, second);
+    let missing = fill_data(&cabinet, out, first, second, file)?;
+    fill_parity(&cabinet, missing, boxes, Parity::First, file, first);
+    fill_parity(&cabinet, missing, boxes + 1, Parity::Second, file, second);
     Ok(())
 }

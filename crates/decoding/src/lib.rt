@@ -4,8 +4,8 @@
 mod decoder;
 mod filling;
 mod matrix;
-mod missing;
 mod solving;
 mod within;
 
 pub use decoder::decode;
+pub use filling::fill;

@@ -1,7 +1,0 @@
-use Rattle.std.proofs.Common.{◌≡◌, drop}
-use Rattle.decoding.specs.Missing.{wrong_boxes}
-use Rattle.decoding.proofs.missing.all_numbered.Given as goal
-
--- none so far is wrong
-abbrev pub invariant-loop-b : goal.invariant-loop-b
-invariant-loop-b l = wrong_boxes l.n (drop l.b-index l.out) ≡ wrong_boxes l.n l.out

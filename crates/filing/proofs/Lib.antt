@@ -1,0 +1,2 @@
+mod Images
+pub mod Rewrites

@@ -1,0 +1,196 @@
+-- What writing a column of a file to a box of a stripe leads to. Assumes nothing.
+use Rattle.std.proofs.Common.{◌≡◌, ◌≢◌, ℕ, zero, suc, ◌+◌, ◌^◌, ◌<◌, ◌≤◌, Bool, true, false, not, ◌&&◌, ◌==◌, ◌*◌, nat_le, nat_lt, List, [], ◌∷◌, ◌++◌, map, length, take, slice_set, slice_index_or, Option, Some, None, refl, sym, ap, ap₂, ◌∙◌, subst, inl, inr, ◌⊎◌, add-one, arith, tests, true≢false}
+use Rattle.std.proofs.lemmas.Bool.{cases_eq, cases_lt}
+use Rattle.std.proofs.lemmas.Bool.Decides.{nat_tests}
+use Rattle.std.proofs.lemmas.List.{get_or_append_left, get_or-append-add, length-append, length-map, map-append, take_all}
+use Rattle.std.proofs.Math.Seq.{take-append_seam}
+use Rattle.field.specs.Symbols.{Symbols}
+use Rattle.code.specs.Codes.{File, column, full, Alike}
+use Rattle.code.specs.Contents.{at}
+use Rattle.refusal.specs.Refusals.{where_holds}
+use Rattle.refusal.specs.declared.Refusal.{Refusal}
+use Rattle.shelf.specs.Meaning.{IsShelf, Meaning, box_count, column as box_column, is_standing, symbol_at, symbol_of, with_row, with_symbol}
+use Rattle.shelf.proofs.Meanings.{change-same}
+use Rattle.shelf_rows.specs.Rows.{has_rows, overwritten, rows_at, rows_of, with_rows, with_stretch}
+use Rattle.shelf_rows.proofs.Columns.{overwritten-more, overwritten_none}
+use Rattle.shelf_rows.proofs.Rows.{box_count_stays, changed_twice, column_stays, column_there, read_back, row_stays, standing_stays, still_shelf}
+use Rattle.stripe.specs.Stripes.{OnlyStripe, has_stripe, held, stands}
+use Rattle.stripe_file.proofs.Loads.{stripe_rows}
+use Rattle.filing.specs.Rewriting.{Rewritten, RowsWritten}
+
+-- what a call that was not declined has asked for holds
+pub asked_for : (t : Bool) (why : Refusal) → None ≡ where_holds (not t) why → t ≡ true
+asked_for true why e = refl
+asked_for false why e = absurd (grind arith)
+
+module _ {T : Type 0} (s : Meaning T) (b from : ℕ) where
+  none_added : with_rows s b from [] ≡ s
+  none_added = change-same s b (with_stretch from []) (by (box_column s b))
+    where
+      by : (o : Option (List T)) → with_stretch from [] o ≡ o
+      by None = refl
+      by (Some ys) = ap Some (overwritten_none from ys)
+
+  module _ (xs : List T) (x : T) where
+    abbrev more : List T
+    more = xs ++ x ∷ []
+
+    pub one_longer : length more ≡ length xs + 1
+    one_longer = length-append xs (x ∷ [])
+
+    last_is : x ≡ slice_index_or more (length xs) x
+    last_is = let e : length xs + 0 ≡ length xs = omega arith in sym (get_or-append-add xs (x ∷ []) 0 x) ∙ ap (λ i. slice_index_or more i x) e
+
+    overwritten_more : (ys : List T) → from + (length xs + 1) ≤ length ys → slice_set (overwritten from xs ys) (from + length xs) x ≡ overwritten from more ys
+    overwritten_more ys h =
+        ap (λ zs. slice_set (overwritten from zs ys) (from + length xs) x) (sym (take-append_seam xs (x ∷ [])))
+        ∙ overwritten-more from more ys (length xs) x (omega (arith, one_longer)) last_is (omega (arith, one_longer))
+        ∙ ap (λ zs. overwritten from zs ys) (take_all (length xs + 1) more (omega (arith, one_longer)))
+
+    -- one symbol more is written
+    pub one_added : IsShelf s → has_rows s b from (length xs + 1) ≡ true → with_symbol (with_rows s b from xs) b (from + length xs) x ≡ with_rows s b from more
+    one_added i e =
+        let c = column_there s b from (length xs + 1) i e in
+        changed_twice s b (with_stretch from xs) (with_row (from + length xs) x) (with_stretch from more)
+        (ap (λ o. with_row (from + length xs) x (with_stretch from xs o)) c.1
+        ∙ ap Some (overwritten_more c.0 c.2)
+        ∙ sym (ap (with_stretch from more) c.1))
+
+module _ (Y : Symbols) {T : Type 0} (v : T → Y.Symbol) (m from : ℕ) (f : File (full Y m)) where
+  abbrev Written : ℕ → ℕ → Meaning T → Meaning T → Type 0
+  Written = RowsWritten Y v m from f
+
+  pub no_row : (b : ℕ) (s : Meaning T) → Written 0 b s s
+  no_row b s = record { symbols = []; count = refl; column = λ a l. absurd (omega arith); written = sym (none_added s (suc b) from) }
+
+  at_more : (xs : List T) (x : T) (a : ℕ) → a < length xs → at Y v (xs ++ x ∷ []) a ≡ at Y v xs a
+  at_more xs x a l =
+      let h : a < length (map v xs) = simp length-map l in
+      ap (λ ys. slice_index_or ys a Y.ring.zero) (map-append v xs (x ∷ [])) ∙ get_or_append_left (map v xs) (v x ∷ []) Y.ring.zero a h
+
+  at_last : (xs : List T) (x : T) (a : ℕ) → a ≡ length xs → at Y v (xs ++ x ∷ []) a ≡ v x
+  at_last xs x a e =
+      let h : a ≡ length (map v xs) + 0 = simp length-map (omega arith) in
+      ap₂ (λ ys i. slice_index_or ys i Y.ring.zero) (map-append v xs (x ∷ [])) h ∙ get_or-append-add (map v xs) (v x ∷ []) 0 Y.ring.zero
+
+  -- one row more
+  pub row_more : (b n : ℕ) (s s1 : Meaning T) (x : T) → IsShelf s → has_stripe m from s ≡ true → stands s b ≡ true → n < 2 ^ m → v x ≡ column (full Y m) f b n
+      → Written n b s s1 → Written (n + 1) b s (with_symbol s1 (b + 1) (from + n) x)
+  row_more b n s s1 x i there stand l e w =
+      let rows : has_rows s (suc b) from (2 ^ m) ≡ true = stripe_rows m from b s there stand in
+      let enough : has_rows s (suc b) from (length w.symbols + 1) ≡ true = fewer (length w.symbols + 1) (omega (arith, w.count)) rows in
+      record {
+        symbols = w.symbols ++ x ∷ [];
+        count = one_longer s (suc b) from w.symbols x ∙ ap (λ k. k + 1) w.count;
+        column = λ a h. elim (cases_lt a n) [
+          | inl k ↦ at_more w.symbols x a (omega (arith, w.count)) ∙ w.column a k
+          | inr k ↦
+              let last : a ≡ n = omega arith in
+              at_last w.symbols x a (last ∙ sym w.count) ∙ e ∙ ap (column (full Y m) f b) (sym last)
+        ];
+        written = (λ j. with_symbol (w.written j) (add-one b j) (from + sym w.count j) x) ∙ one_added s (suc b) from w.symbols x i enough;
+      }
+    where
+      fewer : (k : ℕ) → k ≤ 2 ^ m → has_rows s (suc b) from (2 ^ m) ≡ true → has_rows s (suc b) from k ≡ true
+      fewer k h r = grind (arith, tests)
+
+  -- all rows of a box
+  module _ (b : ℕ) (s s1 : Meaning T) (i : IsShelf s) (there : has_stripe m from s ≡ true) (stand : stands s b ≡ true) (w : Written (2 ^ m) b s s1) where
+    pub box_holds : Alike (full Y m) (held Y v m from s1 b) (column (full Y m) f b)
+    box_holds a l =
+        ap (λ xs. at Y v xs a)
+        (ap (λ k. rows_at k (suc b) from (2 ^ m)) w.written ∙ read_back s (suc b) from (2 ^ m) w.symbols i w.count (stripe_rows m from b s there stand))
+        ∙ w.column a l
+
+    pub box_others : (d : ℕ) → suc b ≢ d → box_column s1 d ≡ box_column s d
+    box_others d n = ap (λ k. box_column k d) w.written ∙ column_stays s (suc b) from w.symbols d n
+
+    pub box_shelf : IsShelf s1
+    box_shelf = subst (λ k. IsShelf k) (sym w.written) (still_shelf s (suc b) from w.symbols i)
+
+    box_elsewhere : (d a : ℕ) → (a < from) ⊎ (from + 2 ^ m ≤ a) → symbol_at s1 d a ≡ symbol_at s d a
+    box_elsewhere d a h = elim (cases_eq (suc b) d) [
+      | inl e ↦
+          subst (λ k. symbol_at s1 k a ≡ symbol_at s k a) e
+          (ap (λ k. symbol_at k (suc b) a) w.written
+          ∙ row_stays s (suc b) from w.symbols a (elim h [ inl k ↦ inl k | inr k ↦ inr (omega (arith, w.count)) ]))
+      | inr n ↦ ap (λ o. symbol_of o a) (box_others d n)
+    ]
+
+    pub box_only : OnlyStripe m from s s1
+    box_only = record {
+      boxes = ap (λ k. box_count k) w.written ∙ box_count_stays s (suc b) from w.symbols;
+      rows = ap (λ k. k.rows) w.written;
+      stand = λ d. ap (λ k. is_standing k d) w.written ∙ standing_stays s (suc b) from w.symbols d;
+      elsewhere = box_elsewhere;
+    }
+
+  only_then : (s s1 s2 : Meaning T) → OnlyStripe m from s s1 → OnlyStripe m from s1 s2 → OnlyStripe m from s s2
+  only_then s s1 s2 o p = record {
+    boxes = p.boxes ∙ o.boxes;
+    rows = p.rows ∙ o.rows;
+    stand = λ b. p.stand b ∙ o.stand b;
+    elsewhere = λ b a h. p.elsewhere b a h ∙ o.elsewhere b a h;
+  }
+
+  abbrev All : (ℕ → Bool) → Meaning T → Meaning T → Type 0
+  All = Rewritten Y v m from f
+
+  -- only which boxes are asked for counts
+  pub rewritten_like : (p q : ℕ → Bool) (s s1 : Meaning T) → ((d : ℕ) → q d ≡ p d) → All p s s1 → All q s s1
+  rewritten_like p q s s1 like r = record {
+    only = r.only;
+    holds = λ b e. r.holds b (sym (like b) ∙ e);
+    others = λ b e. r.others b (sym (like b) ∙ e);
+  }
+
+  -- one box more
+  pub rewritten_more : (p q : ℕ → Bool) (b : ℕ) (s s1 s2 : Meaning T) → IsShelf s1 → has_stripe m from s1 ≡ true → stands s1 b ≡ true → ((d : ℕ) → d ≢ b → q d ≡ p d) → q b ≡ true
+      → All p s s1 → Written (2 ^ m) b s1 s2 → All q s s2
+  rewritten_more p q b s s1 s2 i there stand like asked r w = record {
+    only = only_then s s1 s2 r.only (box_only b s1 s2 i there stand w);
+    holds = λ d e a l. elim (cases_eq d b) [
+      | inl h ↦ subst (λ k. held Y v m from s2 k a ≡ column (full Y m) f k a) (sym h) (box_holds b s1 s2 i there stand w a l)
+      | inr n ↦ ap (λ o. at Y v (rows_of o from (2 ^ m)) a) (others d n) ∙ r.holds d (sym (like d n) ∙ e) a l
+    ];
+    others = λ d e.
+        let n : d ≢ b = λ h. true≢false (sym asked ∙ ap q (sym h) ∙ e) in
+        others d n ∙ r.others d (sym (like d n) ∙ e);
+  }
+    where
+      others : (d : ℕ) → d ≢ b → box_column s2 (suc d) ≡ box_column s1 (suc d)
+      others d n = box_others b s1 s2 i there stand w (suc d) (λ h. n (omega arith))
+
+  pub stripe_stays : (s s1 : Meaning T) → OnlyStripe m from s s1 → has_stripe m from s1 ≡ has_stripe m from s
+  stripe_stays s s1 o = ap₂ (λ n k. (n == 3 * m + 2) && nat_le (from + 2 ^ m) k) o.boxes o.rows
+
+  -- box after box: those in the places below b that stand are written, and then the next if it stands
+  abbrev pub Below : ℕ → Meaning T → Meaning T → Type 0
+  Below b s s1 = All (λ d. nat_lt d b && stands s d) s s1
+
+  pub next_box : (b : ℕ) (s s1 s2 : Meaning T) → IsShelf s1 → has_stripe m from s ≡ true → Below b s s1 → (stands s1 b ≡ true → Written (2 ^ m) b s1 s2) → (stands s1 b ≡ false → s2 ≡ s1)
+      → Below (b + 1) s s2 × IsShelf s2
+  next_box b s s1 s2 i there r written kept = by (stands s1 b) refl
+    where
+      same : stands s1 b ≡ stands s b
+      same = r.only.stand (suc b)
+
+      else_like : (d : ℕ) → d ≢ b → (nat_lt d (b + 1) && stands s d) ≡ (nat_lt d b && stands s d)
+      else_like d n = grind (arith, nat_tests)
+
+      out_like : stands s b ≡ false → (d : ℕ) → (nat_lt d (b + 1) && stands s d) ≡ (nat_lt d b && stands s d)
+      out_like e d = elim (cases_eq d b) [
+        | inl h ↦ let e' : stands s d ≡ false = ap (stands s) h ∙ e in grind (arith, nat_tests)
+        | inr n ↦ else_like d n
+      ]
+
+      by : (t : Bool) → stands s1 b ≡ t → Below (b + 1) s s2 × IsShelf s2
+      by true e =
+          let w = written e in
+          let there1 : has_stripe m from s1 ≡ true = stripe_stays s s1 r.only ∙ there in
+          let asked : (nat_lt b (b + 1) && stands s b) ≡ true = let e' : stands s b ≡ true = sym same ∙ e in grind (arith, nat_tests) in
+          (rewritten_more (λ d. nat_lt d b && stands s d) (λ d. nat_lt d (b + 1) && stands s d) b s s1 s2 i there1 e else_like asked r w, box_shelf b s1 s2 i there1 e w)
+      by false e = (
+        subst (λ k. Below (b + 1) s k) (sym (kept e)) (rewritten_like (λ d. nat_lt d b && stands s d) (λ d. nat_lt d (b + 1) && stands s d) s s1 (out_like (sym same ∙ e)) r),
+        subst (λ k. IsShelf k) (sym (kept e)) i,
+      )

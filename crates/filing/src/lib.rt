@@ -1,0 +1,7 @@
+// The file of a stripe, on any shelf: written to the boxes that stand, and boxes restored by it.
+#![tactic(auto)]
+
+mod symbols;
+mod writing;
+
+pub use writing::write_file;

@@ -1,0 +1,60 @@
+-- What reading the columns of a stripe leads to. Assumes nothing.
+use Rattle.std.proofs.Common.{◌≡◌, ℕ, zero, suc, ◌+◌, ◌*◌, ◌^◌, ◌<◌, Bool, true, false, if◌then◌else◌, List, None, length, sym, refl, ap, ap₂, ◌∙◌, subst, add-one, arith, tests}
+use Rattle.std.proofs.lemmas.Bool.{cond-true}
+use Rattle.field.specs.Symbols.{Symbols}
+use Rattle.code.specs.Codes.{Code, Column, File, data_boxes, full}
+use Rattle.code.specs.Standing.{Counts, FileOf, standing}
+use Rattle.missing.specs.Missing.{Found, present}
+use Rattle.missing.specs.declared.Missing.{Missing}
+use Rattle.missing.proofs.Presence.{present_found}
+use Rattle.refusal.specs.Refusals.{where_holds}
+use Rattle.refusal.specs.declared.Refusal.{Refusal}
+use Rattle.shelf.specs.Meaning.{Meaning}
+use Rattle.shelf_rows.specs.Rows.{has_rows, rows_at, rows_read}
+use Rattle.stripe.specs.Stripes.{StripeFile, has_stripe, held, stands}
+use Rattle.stripe_file.specs.Reasons.{some_out}
+use Rattle.stripe_file.proofs.Searches.{all_there}
+
+-- a box that stands has the rows of the stripe
+module _ {T : Type 0} (m from b : ℕ) (s : Meaning T) where
+  pub stripe_rows : has_stripe m from s ≡ true → stands s b ≡ true → has_rows s (suc b) from (2 ^ m) ≡ true
+  stripe_rows e h = grind (arith, tests)
+
+  pub column_read : (xs : List T) → has_stripe m from s ≡ true → stands s b ≡ true → length xs ≡ 2 ^ m → rows_read s (b + 1) from xs ≡ rows_at s (suc b) from (2 ^ m)
+  column_read xs e h l =
+      let there : has_rows s (b + 1) from (length xs) ≡ true = ap₂ (λ k n. has_rows s k from n) (add-one b) l ∙ stripe_rows e h in
+      cond-true (has_rows s (b + 1) from (length xs)) (rows_at s (b + 1) from (length xs)) xs there ∙ ap₂ (λ k n. rows_at s k from n) (add-one b) l
+
+-- the file is the same wherever the same boxes stand
+module _ {A : Type 0} (c : Code A) (p q : ℕ → Bool) (like : (b : ℕ) → b < data_boxes c + 2 → p b ≡ q b) where
+  as_many : (b : ℕ) → b < data_boxes c + 2 → standing p b ≡ standing q b
+  as_many zero l = refl
+  as_many (suc b) l = ap₂ (λ (v : Bool) (n : ℕ). if v then suc n else n) (like b (omega arith)) (as_many b (omega arith))
+
+  pub file_like : (g : ℕ → Column c) (f : File c) → FileOf c p g f → FileOf c q g f
+  file_like g f of = record {
+    has = λ b l k. of.has b l (there b l k);
+    only = λ f' fits. of.only f' (λ b l k. fits b l (here b l k));
+  }
+    where
+      there : (b : ℕ) → b < data_boxes c + 2 → Counts c q b → Counts c p b
+      there b l k = (like b l ∙ k.0, omega (arith, as_many b l, k.1))
+
+      here : (b : ℕ) → b < data_boxes c + 2 → Counts c p b → Counts c q b
+      here b l k = (sym (like b l) ∙ k.0, omega (arith, as_many b l, k.1))
+
+-- what was found, and what was read then, are of the shelf as it was before
+module _ (Y : Symbols) {T : Type 0} (v : T → Y.Symbol) (m from : ℕ) (s s1 s2 : Meaning T) (e1 : s1 ≡ s) (e2 : s2 ≡ s1) (missing : Missing) (boxes : ℕ) (eb : boxes ≡ 3 * m) where
+  pub file_read : Found (stands s1) (boxes + 2) missing → (f : File (full Y m)) → FileOf (full Y m) (present missing) (held Y v m from s2) f → StripeFile Y v m from s f
+  file_read found f of =
+      subst (λ k. StripeFile Y v m from k f) (e2 ∙ e1)
+      (file_like (full Y m) (present missing) (stands s2) (λ b l. present_found (stands s2) (3 * m + 2) missing (subst (λ k. Found (stands k) (3 * m + 2) missing) (sym e2) (subst (λ n. Found (stands s1) (n + 2) missing) eb found)) b l) (held Y v m from s2) f of)
+
+  not_refused : (t : Bool) (why : Refusal) → None ≡ where_holds t why → t ≡ false
+  not_refused true why e = absurd (grind arith)
+  not_refused false why e = refl
+
+  pub others_there : (t : Bool) (why : Refusal) → None ≡ where_holds t why → t ≡ some_out (present missing) (stands s1) (boxes + 2)
+      → (b : ℕ) → b < 3 * m + 2 → present missing b ≡ true → stands s2 b ≡ true
+  others_there t why none is b l e =
+      ap (λ k. stands k b) e2 ∙ all_there (present missing) (stands s1) (boxes + 2) (sym is ∙ not_refused t why none) b (omega arith) e
