@@ -1,0 +1,4 @@
+// Amending one symbol of a stripe's file by small writes, on any shelf.
+#![tactic(auto)]
+
+pub mod changes;
