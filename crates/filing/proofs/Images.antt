@@ -1,5 +1,5 @@
 -- The image of a column, in one row. Assumes nothing.
-use Rattle.std.proofs.Common.{◌≡◌, ℕ, ◌+◌, ◌^◌, ◌<◌, ◌≤◌, Bool, false, true, List, length, slice_index_or, sym, ap, ◌∙◌, ap₂, subst, arith}
+use Rattle.std.proofs.Common.{◌≡◌, ℕ, ◌+◌, ◌^◌, ◌<◌, ◌≤◌, Bool, false, true, List, length, slice_index_or, ap, ◌∙◌, ap₂, arith}
 use Rattle.field.specs.Symbols.{Symbols}
 use Rattle.code.specs.Blocks.{block}
 use Rattle.code.specs.Codes.{full, image, shift}

@@ -1,12 +1,12 @@
 -- What writing a column of a file to a box of a stripe leads to. Assumes nothing.
-use Rattle.std.proofs.Common.{◌≡◌, ◌≢◌, ℕ, zero, suc, ◌+◌, ◌^◌, ◌<◌, ◌≤◌, Bool, true, false, not, ◌&&◌, ◌==◌, ◌*◌, nat_le, nat_lt, List, [], ◌∷◌, ◌++◌, map, length, take, slice_set, slice_index_or, Option, Some, None, refl, sym, ap, ap₂, ◌∙◌, subst, inl, inr, ◌⊎◌, add-one, arith, tests, true≢false}
+use Rattle.std.proofs.Common.{◌≡◌, ◌≢◌, ℕ, suc, ◌+◌, ◌^◌, ◌<◌, ◌≤◌, Bool, true, false, not, ◌&&◌, ◌||◌, ◌==◌, ◌*◌, nat_le, nat_lt, List, [], ◌∷◌, ◌++◌, map, length, slice_set, slice_index_or, Option, Some, None, refl, sym, ap, ap₂, ◌∙◌, subst, inl, inr, ◌⊎◌, add-one, arith, tests, true≢false}
 use Rattle.std.proofs.lemmas.Bool.{cases_eq, cases_lt}
 use Rattle.std.proofs.lemmas.Bool.Decides.{nat_tests}
 use Rattle.std.proofs.lemmas.List.{get_or_append_left, get_or-append-add, length-append, length-map, map-append, take_all}
 use Rattle.std.proofs.Math.Seq.{take-append_seam}
 use Rattle.field.specs.Symbols.{Symbols}
 use Rattle.code.specs.Codes.{File, column, full, Alike}
-use Rattle.code.specs.Contents.{at}
+use Rattle.code.specs.Contents.{Holds, at}
 use Rattle.refusal.specs.Refusals.{where_holds}
 use Rattle.refusal.specs.declared.Refusal.{Refusal}
 use Rattle.shelf.specs.Meaning.{IsShelf, Meaning, box_count, column as box_column, is_standing, symbol_at, symbol_of, with_row, with_symbol}
@@ -16,7 +16,7 @@ use Rattle.shelf_rows.proofs.Columns.{overwritten-more, overwritten_none}
 use Rattle.shelf_rows.proofs.Rows.{box_count_stays, changed_twice, column_stays, column_there, read_back, row_stays, standing_stays, still_shelf}
 use Rattle.stripe.specs.Stripes.{OnlyStripe, has_stripe, held, stands}
 use Rattle.stripe_file.proofs.Loads.{stripe_rows}
-use Rattle.filing.specs.Rewriting.{Rewritten, RowsWritten}
+use Rattle.filing.specs.Rewriting.{Rewritten}
 
 -- what a call that was not declined has asked for holds
 pub asked_for : (t : Bool) (why : Refusal) → None ≡ where_holds (not t) why → t ≡ true
@@ -57,8 +57,12 @@ module _ {T : Type 0} (s : Meaning T) (b from : ℕ) where
         ∙ sym (ap (with_stretch from more) c.1))
 
 module _ (Y : Symbols) {T : Type 0} (v : T → Y.Symbol) (m from : ℕ) (f : File (full Y m)) where
-  abbrev Written : ℕ → ℕ → Meaning T → Meaning T → Type 0
-  Written = RowsWritten Y v m from f
+  -- the first n rows of the stripe in the box in place b were written, with what that box holds of the file
+  pub record Written (n b : ℕ) (old new : Meaning T) : Type 0 where
+    pub symbols : List T
+    pub count : length symbols ≡ n
+    pub column : Holds Y v n symbols (column (full Y m) f b)
+    pub written : new ≡ with_rows old (suc b) from symbols
 
   pub no_row : (b : ℕ) (s : Meaning T) → Written 0 b s s
   no_row b s = record { symbols = []; count = refl; column = λ a l. absurd (omega arith); written = sym (none_added s (suc b) from) }
@@ -125,16 +129,8 @@ module _ (Y : Symbols) {T : Type 0} (v : T → Y.Symbol) (m from : ℕ) (f : Fil
       elsewhere = box_elsewhere;
     }
 
-  only_then : (s s1 s2 : Meaning T) → OnlyStripe m from s s1 → OnlyStripe m from s1 s2 → OnlyStripe m from s s2
-  only_then s s1 s2 o p = record {
-    boxes = p.boxes ∙ o.boxes;
-    rows = p.rows ∙ o.rows;
-    stand = λ b. p.stand b ∙ o.stand b;
-    elsewhere = λ b a h. p.elsewhere b a h ∙ o.elsewhere b a h;
-  }
-
   abbrev All : (ℕ → Bool) → Meaning T → Meaning T → Type 0
-  All = Rewritten Y v m from f
+  All p = Rewritten Y v m from f p
 
   -- only which boxes are asked for counts
   pub rewritten_like : (p q : ℕ → Bool) (s s1 : Meaning T) → ((d : ℕ) → q d ≡ p d) → All p s s1 → All q s s1
@@ -144,53 +140,65 @@ module _ (Y : Symbols) {T : Type 0} (v : T → Y.Symbol) (m from : ℕ) (f : Fil
     others = λ b e. r.others b (sym (like b) ∙ e);
   }
 
-  -- one box more
-  pub rewritten_more : (p q : ℕ → Bool) (b : ℕ) (s s1 s2 : Meaning T) → IsShelf s1 → has_stripe m from s1 ≡ true → stands s1 b ≡ true → ((d : ℕ) → d ≢ b → q d ≡ p d) → q b ≡ true
-      → All p s s1 → Written (2 ^ m) b s1 s2 → All q s s2
-  rewritten_more p q b s s1 s2 i there stand like asked r w = record {
-    only = only_then s s1 s2 r.only (box_only b s1 s2 i there stand w);
-    holds = λ d e a l. elim (cases_eq d b) [
-      | inl h ↦ subst (λ k. held Y v m from s2 k a ≡ column (full Y m) f k a) (sym h) (box_holds b s1 s2 i there stand w a l)
-      | inr n ↦ ap (λ o. at Y v (rows_of o from (2 ^ m)) a) (others d n) ∙ r.holds d (sym (like d n) ∙ e) a l
+  -- a box that is written, and one that is out and left as it is
+  abbrev pub only_box : ℕ → Meaning T → ℕ → Bool
+  only_box b s d = d == b && stands s d
+
+  pub box_written : (b : ℕ) (s s1 : Meaning T) → IsShelf s → has_stripe m from s ≡ true → stands s b ≡ true → Written (2 ^ m) b s s1 → All (only_box b s) s s1
+  box_written b s s1 i there stand w = record {
+    only = box_only b s s1 i there stand w;
+    holds = λ d e a l. let same : d ≡ b = grind (arith, nat_tests) in
+        subst (λ k. held Y v m from s1 k a ≡ column (full Y m) f k a) (sym same) (box_holds b s s1 i there stand w a l);
+    others = λ d e. elim (cases_eq d b) [
+      | inl h ↦ let stand' : stands s d ≡ true = ap (stands s) h ∙ stand in absurd (grind (arith, nat_tests))
+      | inr n ↦ box_others b s s1 i there stand w (suc d) (λ h. n (omega arith))
     ];
-    others = λ d e.
-        let n : d ≢ b = λ h. true≢false (sym asked ∙ ap q (sym h) ∙ e) in
-        others d n ∙ r.others d (sym (like d n) ∙ e);
+  }
+
+  pub box_kept : (b : ℕ) (s s1 : Meaning T) → stands s b ≡ false → s1 ≡ s → All (only_box b s) s s1
+  box_kept b s s1 out e = record {
+    only = record { boxes = ap (λ k. box_count k) e; rows = ap (λ k. k.rows) e; stand = λ d. ap (λ k. is_standing k d) e; elsewhere = λ d a h. ap (λ k. symbol_at k d a) e };
+    holds = λ d h. absurd (none d h);
+    others = λ d h. ap (λ k. box_column k (suc d)) e;
   }
     where
-      others : (d : ℕ) → d ≢ b → box_column s2 (suc d) ≡ box_column s1 (suc d)
-      others d n = box_others b s1 s2 i there stand w (suc d) (λ h. n (omega arith))
+      none : (d : ℕ) → only_box b s d ≡ true → ⊥
+      none d h = let same : d ≡ b = grind (arith, nat_tests) in let out' : stands s d ≡ false = ap (stands s) same ∙ out in grind (arith, nat_tests)
 
-  pub stripe_stays : (s s1 : Meaning T) → OnlyStripe m from s s1 → has_stripe m from s1 ≡ has_stripe m from s
-  stripe_stays s s1 o = ap₂ (λ n k. (n == 3 * m + 2) && nat_le (from + 2 ^ m) k) o.boxes o.rows
+  -- some boxes, and then others
+  pub rewritten_then : (p q r : ℕ → Bool) (s s1 s2 : Meaning T) → ((d : ℕ) → r d ≡ (p d || q d)) → All p s s1 → All q s1 s2 → All r s s2
+  rewritten_then p q r s s1 s2 like one two = record {
+    only = record {
+      boxes = two.only.boxes ∙ one.only.boxes;
+      rows = two.only.rows ∙ one.only.rows;
+      stand = λ b. two.only.stand b ∙ one.only.stand b;
+      elsewhere = λ b a h. two.only.elsewhere b a h ∙ one.only.elsewhere b a h;
+    };
+    holds = λ d e a l. by d a l (sym (like d) ∙ e) (q d) refl;
+    others = λ d e. let n = neither (p d) (q d) (sym (like d) ∙ e) in two.others d n.1 ∙ one.others d n.0;
+  }
+    where
+      neither : (t u : Bool) → (t || u) ≡ false → (t ≡ false) × (u ≡ false)
+      neither true u e = absurd (true≢false e)
+      neither false u e = (refl, e)
+
+      first : (t : Bool) → (t || false) ≡ true → t ≡ true
+      first true e = refl
+      first false e = absurd (true≢false (sym e))
+
+      by : (d a : ℕ) → a < 2 ^ m → (p d || q d) ≡ true → (t : Bool) → q d ≡ t → held Y v m from s2 d a ≡ column (full Y m) f d a
+      by d a l e true h = two.holds d h a l
+      by d a l e false h = ap (λ o. at Y v (rows_of o from (2 ^ m)) a) (two.others d h) ∙ one.holds d (first (p d) (ap (λ t. p d || t) (sym h) ∙ e)) a l
+
+  pub stripe_stays : (p : ℕ → Bool) (s s1 : Meaning T) → All p s s1 → has_stripe m from s1 ≡ has_stripe m from s
+  stripe_stays p s s1 r = ap₂ (λ n k. (n == 3 * m + 2) && nat_le (from + 2 ^ m) k) r.only.boxes r.only.rows
 
   -- box after box: those in the places below b that stand are written, and then the next if it stands
   abbrev pub Below : ℕ → Meaning T → Meaning T → Type 0
   Below b s s1 = All (λ d. nat_lt d b && stands s d) s s1
 
-  pub next_box : (b : ℕ) (s s1 s2 : Meaning T) → IsShelf s1 → has_stripe m from s ≡ true → Below b s s1 → (stands s1 b ≡ true → Written (2 ^ m) b s1 s2) → (stands s1 b ≡ false → s2 ≡ s1)
-      → Below (b + 1) s s2 × IsShelf s2
-  next_box b s s1 s2 i there r written kept = by (stands s1 b) refl
+  pub next_box : (b : ℕ) (s s1 s2 : Meaning T) → Below b s s1 → All (only_box b s1) s1 s2 → Below (b + 1) s s2
+  next_box b s s1 s2 below here = rewritten_then (λ d. nat_lt d b && stands s d) (only_box b s1) (λ d. nat_lt d (b + 1) && stands s d) s s1 s2 like below here
     where
-      same : stands s1 b ≡ stands s b
-      same = r.only.stand (suc b)
-
-      else_like : (d : ℕ) → d ≢ b → (nat_lt d (b + 1) && stands s d) ≡ (nat_lt d b && stands s d)
-      else_like d n = grind (arith, nat_tests)
-
-      out_like : stands s b ≡ false → (d : ℕ) → (nat_lt d (b + 1) && stands s d) ≡ (nat_lt d b && stands s d)
-      out_like e d = elim (cases_eq d b) [
-        | inl h ↦ let e' : stands s d ≡ false = ap (stands s) h ∙ e in grind (arith, nat_tests)
-        | inr n ↦ else_like d n
-      ]
-
-      by : (t : Bool) → stands s1 b ≡ t → Below (b + 1) s s2 × IsShelf s2
-      by true e =
-          let w = written e in
-          let there1 : has_stripe m from s1 ≡ true = stripe_stays s s1 r.only ∙ there in
-          let asked : (nat_lt b (b + 1) && stands s b) ≡ true = let e' : stands s b ≡ true = sym same ∙ e in grind (arith, nat_tests) in
-          (rewritten_more (λ d. nat_lt d b && stands s d) (λ d. nat_lt d (b + 1) && stands s d) b s s1 s2 i there1 e else_like asked r w, box_shelf b s1 s2 i there1 e w)
-      by false e = (
-        subst (λ k. Below (b + 1) s k) (sym (kept e)) (rewritten_like (λ d. nat_lt d b && stands s d) (λ d. nat_lt d (b + 1) && stands s d) s s1 (out_like (sym same ∙ e)) r),
-        subst (λ k. IsShelf k) (sym (kept e)) i,
-      )
+      like : (d : ℕ) → (nat_lt d (b + 1) && stands s d) ≡ ((nat_lt d b && stands s d) || only_box b s1 d)
+      like d = let same : stands s1 d ≡ stands s d = below.only.stand (suc d) in grind (arith, nat_tests)

@@ -1,1 +1,2 @@
+pub mod Restoring
 pub mod Rewriting

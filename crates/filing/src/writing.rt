@@ -1,10 +1,9 @@
 // The columns of a file, written to the boxes of a stripe.
-ghost use Rattle.std.specs.Prelude.{◌≡◌, ◌+◌, ◌*◌, ◌^◌, ◌<◌, true, false, [], ◌∷◌, length, IfOk, MatchResult};
+ghost use Rattle.std.specs.Prelude.{◌≡◌, ◌+◌, ◌*◌, ◌^◌, ◌<◌, true, ◌&&◌, ◌==◌, [], ◌∷◌, length, IfOk, MatchResult};
 ghost use Rattle.code.specs.Contents.{parts};
 ghost use Rattle.refusal.specs.Refusals.{earliest, refusal, wrong_lengths};
-ghost use Rattle.shelf.specs.Meaning.{IsShelf};
 ghost use Rattle.stripe.specs.Stripes.{HoldsFile, OnlyStripe, has_stripe, no_stripe, stands};
-ghost use Rattle.filing.specs.Rewriting.{Rewritten, RowsWritten};
+ghost use Rattle.filing.specs.Rewriting.{Rewritten};
 
 use crate::symbols::file_symbol;
 use field::Sums;
@@ -20,11 +19,9 @@ pub(crate) fn write_box<F: Sums, S: Shelf<Symbol = F>>(
     b: usize,
 )
     requires whole { let m = stripe.now.cabinet.size.m in length file.now ≡ 3 * m * 2 ^ m }
-    requires shelf { IsShelf (S.meaning shelf.old) }
     requires there { has_stripe stripe.now.cabinet.size.m stripe.now.from (S.meaning shelf.old) ≡ true }
     requires inside { b < 3 * stripe.now.cabinet.size.m + 2 }
-    ensures standing { let m = stripe.now.cabinet.size.m in stands (S.meaning shelf.old) b ≡ true → RowsWritten F.symbols F.value m stripe.now.from (parts F.symbols F.value (2 ^ m) file.now) (2 ^ m) b (S.meaning shelf.old) (S.meaning shelf.new) }
-    ensures out { stands (S.meaning shelf.old) b ≡ false → S.meaning shelf.new ≡ S.meaning shelf.old }
+    ensures after { let m = stripe.now.cabinet.size.m in let s = S.meaning shelf.old in Rewritten F.symbols F.value m stripe.now.from (parts F.symbols F.value (2 ^ m) file.now) (λ d. d == b && stands s d) s (S.meaning shelf.new) }
     ensures lender { S.buffers shelf.new ≡ S.buffers shelf.old }
 {
     if !shelf.stands(b + 1) {
@@ -38,6 +35,7 @@ pub(crate) fn write_box<F: Sums, S: Shelf<Symbol = F>>(
 
 // Writes their columns of a file to the boxes that stand. Refused, with nothing
 // written, by a shelf or a length that does not fit.
+#[tactic(auto, using(crate::proofs::Rewrites::next_box))]
 pub fn write_file<F: Sums, S: Shelf<Symbol = F>>(
     shelf: &mut S,
     stripe: &Stripe<F>,

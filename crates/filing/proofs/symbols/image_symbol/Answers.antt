@@ -1,7 +1,5 @@
 use Rattle.std.proofs.Common.{true, false, sym, ◌∙◌, arith}
-use Rattle.code.specs.Contents.{at}
-use Rattle.columns.proofs.Slices.{read}
-use Rattle.filing.proofs.Images.{low_below, high_below, image_there}
+use Rattle.filing.proofs.Images.{high_below, image_there}
 use Rattle.filing.proofs.symbols.image_symbol.Goals as goal
 
 pub offset_bounds-column-low-2 : goal.offset_bounds-column-low-2

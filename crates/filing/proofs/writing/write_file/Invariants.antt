@@ -1,8 +1,6 @@
-use Rattle.std.proofs.Common.{◌≡◌, ◌^◌, ◌&&◌, nat_lt}
+use Rattle.std.proofs.Common.{◌≡◌, ◌^◌}
 use Rattle.code.specs.Contents.{parts}
-use Rattle.shelf.specs.Meaning.{IsShelf}
-use Rattle.stripe.specs.Stripes.{stands}
-use Rattle.filing.specs.Rewriting.{Rewritten}
+use Rattle.filing.proofs.Rewrites.{Below}
 use Rattle.filing.proofs.writing.write_file.Given as goal
 
 -- those in the places below b that stand have been written
@@ -11,5 +9,5 @@ invariant-loop-b g l =
     let f = g.F.Sums in
     let s = g.S.Shelf in
     let m = l.stripe.cabinet.size.m in
-    Rewritten f.symbols f.value m l.stripe.from (parts f.symbols f.value (2 ^ m) l.file) (λ d. nat_lt d l.b && stands (s.meaning l.fn.shelf) d) (s.meaning l.fn.shelf) (s.meaning l.shelf)
-    × IsShelf (s.meaning l.shelf) × (s.buffers l.shelf ≡ s.buffers l.fn.shelf)
+    Below f.symbols f.value m l.stripe.from (parts f.symbols f.value (2 ^ m) l.file) l.b (s.meaning l.fn.shelf) (s.meaning l.shelf)
+    × (s.buffers l.shelf ≡ s.buffers l.fn.shelf)
