@@ -1,5 +1,5 @@
 -- Lemmas on what moves in a stripe, one write after another. Assumes nothing.
-use Rattle.std.proofs.Common.{◌≡◌, ◌≢◌, ℕ, suc, ◌+◌, ◌*◌, ◌^◌, ◌<◌, ◌≤◌, ◌⊎◌, ⊎_elim, Bool, true, false, ◌&&◌, ◌||◌, ◌==◌, if◌then◌else◌, nat_le, Option, Some, None, is_some, sym, refl, ap, ap₂, ◌∙◌, subst, inl, inr, true≢false, arith, tests}
+use Rattle.std.proofs.Common.{◌≡◌, ◌≢◌, ℕ, suc, ◌+◌, ◌*◌, ◌^◌, ◌<◌, ◌⊎◌, ⊎_elim, Bool, true, false, ◌&&◌, ◌||◌, ◌==◌, nat_le, Some, None, is_some, sym, refl, ap, ap₂, ◌∙◌, subst, inl, inr, true≢false, arith, tests}
 use Rattle.std.proofs.lemmas.Bool.{cases_eq}
 use Rattle.field.specs.Symbols.{Symbols}
 use Rattle.shelf.specs.Laws.{Stored}
@@ -31,7 +31,7 @@ module _ {T : Type 0} (m from : ℕ) where
   stripe_kept s t h o = ap₂ (λ n r. (n == 3 * m + 2) && nat_le (from + 2 ^ m) r) o.boxes o.rows ∙ h
 
 -- a place is the one named, or another
-by_place : {A : Type 0} (b a e r : ℕ) → ((e ≡ b) × (r ≡ a) → A) → ((e ≢ b) ⊎ (r ≢ a) → A) → A
+pub by_place : {A : Type 0} (b a e r : ℕ) → ((e ≡ b) × (r ≡ a) → A) → ((e ≢ b) ⊎ (r ≢ a) → A) → A
 by_place b a e r here there =
     ⊎_elim (λ p. ⊎_elim (λ q. here (p, q)) (λ n. there (inr n)) (cases_eq r a)) (λ n. there (inl n)) (cases_eq e b)
 
@@ -95,8 +95,8 @@ module _ (Y : Symbols) where
         symbols = λ e h w r l. by_place b a e r
             (λ p.
             let now : symbol_at t (suc e) (from + r) ≡ Some y =
-                    ap (λ u. symbol_at u (suc e) (from + r)) put ∙ ap₂ (λ i j. symbol_at (with_symbol s (suc b) (from + a) y) (suc i) (from + j)) p.0 p.1
-                    ∙ stored.here (row_there (ap (stands s) (sym p.0) ∙ w))
+            ap (λ u. symbol_at u (suc e) (from + r)) put ∙ ap₂ (λ i j. symbol_at (with_symbol s (suc b) (from + a) y) (suc i) (from + j)) p.0 p.1
+            ∙ stored.here (row_there (ap (stands s) (sym p.0) ∙ w))
             in
             let before : symbol_at s (suc e) (from + r) ≡ Some x = ap₂ (λ i j. symbol_at s (suc i) (from + j)) p.0 p.1 ∙ there in
             at_row Y v t (suc e) from (2 ^ m) r y l now ∙ sum

@@ -1,5 +1,5 @@
 -- Lemmas on the file that is zero but for one symbol: what each box holds of it. Assumes nothing.
-use Rattle.std.proofs.Common.{◌≡◌, ◌≢◌, ℕ, zero, suc, ◌+◌, ◌*◌, ◌^◌, ◌<◌, ◌≤◌, ◌⊎◌, ⊎_elim, Bool, true, false, not, ◌&&◌, ◌||◌, ◌==◌, if◌then◌else◌, [], ◌∷◌, sym, refl, ap, ap₂, ◌∙◌, subst, inl, inr, true≢false, arith, tests}
+use Rattle.std.proofs.Common.{◌≡◌, ◌≢◌, ℕ, zero, suc, ◌+◌, ◌*◌, ◌<◌, ⊎_elim, Bool, true, false, not, ◌&&◌, ◌||◌, ◌==◌, if◌then◌else◌, [], ◌∷◌, sym, refl, ap, ap₂, ◌∙◌, subst, inl, inr, true≢false, arith}
 use Rattle.std.proofs.lemmas.Bool.{cases_eq}
 use mathlib.Core.Path.{fun_ext}
 use Rattle.boxes.specs.Boxes.{BlockOf}
@@ -7,7 +7,7 @@ use Rattle.field.specs.Ring.{Ring}
 use Rattle.field.specs.Symbols.{Symbols}
 use Rattle.field.proofs.Solver.{o, ◌⊕◌, ◌⊗◌, ◌⊖◌, ◌≐◌, ring}
 use Rattle.code.specs.Blocks.{block}
-use Rattle.code.specs.Codes.{Code, File, Column, column, data_boxes, eigen_p, eigen_q, full, image, kind, parity1, parity2, shift, sum}
+use Rattle.code.specs.Codes.{Code, File, Column, column, data_boxes, eigen_p, eigen_q, full, image, kind, shift, sum}
 use Rattle.code.specs.Rows.{digit, odd, partner}
 use Rattle.code.specs.declared.Kind.{Kind}
 use Rattle.code.specs.declared.Kind.TheVariants.{Lower, Upper, Sum}
@@ -16,7 +16,7 @@ use Rattle.code.proofs.Digits.{bit_to_c, rows, to_bit_c, to_to_c}
 use Rattle.code.proofs.Halves.{after_op}
 use Rattle.code.proofs.Matrices.{mat}
 use Rattle.code.proofs.Operators.{op_add}
-use Rattle.code.proofs.Sums.{but, if_other, if_same, sum_but}
+use Rattle.code.proofs.Sums.{if_other, if_same, sum_but}
 use Rattle.std.specs.Bool.{OnFalse, OnTrue}
 use Rattle.shelf.specs.Meaning.{Meaning}
 use Rattle.amending.specs.Changes.{Moved, carries, in_image, other_row, single, touches, upper}

@@ -2,7 +2,7 @@
 -- Boxes go by their places, from 0: box b has place b - 1. Assumes nothing.
 use Rattle.std.specs.Prelude.{◌≡◌, ℕ, suc, ◌+◌, ◌*◌, ◌^◌, ◌<◌, Bool, true, false, not, ◌&&◌, ◌||◌, ◌==◌, if◌then◌else◌}
 use Rattle.field.specs.Symbols.{Symbols}
-use Rattle.code.specs.Codes.{Code, data_boxes, full, kind, shift}
+use Rattle.code.specs.Codes.{Code, data_boxes, kind, shift}
 use Rattle.code.specs.Rows.{digit, odd, partner}
 use Rattle.code.specs.declared.Kind.{Kind}
 use Rattle.code.specs.declared.Kind.TheVariants.{Lower, Upper, Sum}

@@ -72,7 +72,11 @@ fn other_row<F: Sums>(cabinet: &Cabinet<F>, b: usize, a: usize) -> usize
 {
     let digit = cabinet.size.digit(b);
     let low = digit.lower_partner(a);
-    if digit.is_upper(a) { low } else { low + digit.weight() }
+    if digit.is_upper(a) {
+        low
+    } else {
+        low + digit.weight()
+    }
 }
 
 // What the block of the data box in place b makes of d in row a alone: in that

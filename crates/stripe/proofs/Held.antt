@@ -1,13 +1,13 @@
 -- Lemmas on what boxes hold in the rows of a stripe. Assumes nothing.
-use Rattle.std.proofs.Common.{◌≡◌, ℕ, suc, ◌+◌, ◌-◌, ◌*◌, ◌^◌, ◌<◌, ◌≤◌, Bool, true, List, map, Some, length, sym, ap, ◌∙◌, arith, tests}
+use Rattle.std.proofs.Common.{◌≡◌, ℕ, suc, ◌+◌, ◌-◌, ◌^◌, ◌<◌, ◌≤◌, true, map, Some, sym, ap, ◌∙◌, arith, tests}
 use Rattle.std.proofs.lemmas.Option.{slice_get-map, unwrap_or-slice_get}
 use Rattle.std.specs.Option.{option_map, unwrap_or}
 use Rattle.field.specs.Symbols.{Symbols}
 use Rattle.code.specs.Contents.{at}
-use Rattle.shelf.specs.Meaning.{IsShelf, Meaning, column, has_row, is_standing, symbol_at, symbol_of}
+use Rattle.shelf.specs.Meaning.{Meaning, column, is_standing, symbol_at}
 use Rattle.shelf_rows.specs.Rows.{has_rows, rows_at, rows_of}
 use Rattle.shelf_rows.proofs.Rows.{row_read}
-use Rattle.stripe.specs.Stripes.{has_stripe, held, stands}
+use Rattle.stripe.specs.Stripes.{has_stripe, held}
 
 module _ (Y : Symbols) {T : Type 0} (value : T → Y.Symbol) where
   -- what stands in a row

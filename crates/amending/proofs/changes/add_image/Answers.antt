@@ -1,4 +1,4 @@
-use Rattle.std.proofs.Common.{add-one, ap, ap₂, ◌+◌, ◌∙◌, sym}
+use Rattle.std.proofs.Common.{add-one, ap, ap₂, ◌+◌, ◌∙◌}
 use Rattle.code.specs.Rows.{digit, odd}
 use Rattle.amending.specs.Changes.{carries}
 use Rattle.amending.proofs.Singles.{image_written}

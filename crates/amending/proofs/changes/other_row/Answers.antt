@@ -1,5 +1,4 @@
-use Rattle.std.proofs.Common.{true, ap, ap₂, ◌+◌, ◌∙◌, arith}
-use Rattle.code.specs.Rows.{partner}
+use Rattle.std.proofs.Common.{true, ap₂, ◌+◌, arith}
 use Rattle.code.proofs.Digits.{partner_lt}
 use Rattle.amending.proofs.changes.other_row.Goals as goal
 
