@@ -1,5 +1,5 @@
 -- Lemmas on the halves that boxes of a shelf send. Assumes nothing.
-use Rattle.std.proofs.Common.{◌≡◌, ◌≢◌, ℕ, zero, suc, ◌+◌, ◌-◌, ◌*◌, ◌^◌, ◌<◌, ◌≤◌, Bool, true, List, map, length, slice_index_or, Some, if◌then◌else◌, nat_lt, sym, ap, ap₂, ◌∙◌, inl, inr, arith, tests, rules, mul-le-mul_right}
+use Rattle.std.proofs.Common.{◌≡◌, ◌≢◌, ℕ, zero, suc, ◌+◌, ◌-◌, ◌*◌, ◌^◌, ◌<◌, ◌≤◌, Bool, true, List, map, length, slice_index_or, Option, Some, is_some, if◌then◌else◌, nat_lt, sym, ap, ap₂, ◌∙◌, inl, inr, arith, tests, rules, mul-le-mul_right}
 use Rattle.std.proofs.lemmas.Bool.{cases_order}
 use Rattle.std.proofs.lemmas.List.{take-map, drop-map, length-map, map-append, places}
 use Rattle.std.proofs.lemmas.Nat.{mul-add-lt}
@@ -11,10 +11,11 @@ use Rattle.code.specs.Codes.{full, half_for, helper, kind, shift}
 use Rattle.code.specs.Contents.{Holds, at, parts}
 use Rattle.code.specs.Rows.{lower}
 use Rattle.code.specs.declared.Kind.{Kind}
-use Rattle.shelf.specs.Meaning.{Meaning, is_standing, symbol_at}
+use Rattle.shelf.specs.Meaning.{IsShelf, Meaning, has_row, is_standing, symbol_at}
+use Rattle.shelf.proofs.Meanings.{symbol_at_there}
 use Rattle.shelf_rows.specs.Rows.{has_rows, rows_at}
 use Rattle.stripe.specs.Stripes.{has_stripe, held, stands}
-use Rattle.stripe.proofs.Held.{at_row, stripe_rows}
+use Rattle.stripe.proofs.Held.{at_row, held_number, stripe_rows}
 use Rattle.renewing.specs.Renewals.{HalvesOf, others_stand}
 
 -- each of the other boxes stands
@@ -28,6 +29,10 @@ other_stands up x (suc k) b e h n =
     ]
 
 module _ {T : Type 0} (s : Meaning T) where
+  -- what is fetched from a row that is there
+  pub is_there : (b a : ℕ) (o : Option T) → IsShelf s → has_row s b a ≡ true → o ≡ symbol_at s b a → is_some o ≡ true
+  is_there b a o k h e = ap is_some (e ∙ (symbol_at_there s k b a h).1)
+
   -- so has each helper the rows of the stripe
   pub helper_rows : (m from lost h b : ℕ) → has_stripe m from s ≡ true → others_stand (stands s) (lost - 1) (3 * m + 2) ≡ true → h < 3 * m + 1
       → b ≡ suc (if nat_lt h (lost - 1) then h else suc h) → has_rows s b from (2 ^ m) ≡ true
@@ -49,6 +54,12 @@ module _ (Y : Symbols) {T : Type 0} (v : T → Y.Symbol) where
       let second : v z ≡ C (lower (shift (full Y m) x) j + 2 ^ shift (full Y m) x) =
       sym (at_row Y v s b from (2 ^ m) high z rows.bound (ap (λ w. symbol_at w b (from + high)) (sym et) ∙ ez)) ∙ ap C rows.is_high in
       er ∙ (λ i. half Y.ring (eu i) (first i) (second i))
+
+  -- a half, by the box's number
+  pub half_sent : (m from x b : ℕ) (s t : Meaning T) (xs : List T) → 1 ≤ b → t ≡ s → Holds Y v (2 ^ (m - 1)) xs (half_for (full Y m) x (at Y v (rows_at t b from (2 ^ m))))
+      → Holds Y v (2 ^ (m - 1)) xs (half_for (full Y m) x (held Y v m from s (b - 1)))
+  half_sent m from x b s t xs first same h a l =
+      h a l ∙ ap (λ C. half_for (full Y m) x C a) (ap (λ w. at Y v (rows_at w b from (2 ^ m))) same ∙ sym (held_number Y v m from s b first))
 
   map_mid : (a k : ℕ) (xs ys : List T) → map v (put_mid a k xs ys) ≡ put_mid a k (map v xs) (map v ys)
   map_mid a k xs ys = search (map-append, take-map, drop-map)

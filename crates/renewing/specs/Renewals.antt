@@ -2,9 +2,10 @@
 -- Boxes go by their places, from 0: box b has place b - 1. Assumes nothing.
 use Rattle.std.specs.Prelude.{◌≡◌, ◌≢◌, ℕ, zero, suc, ◌+◌, ◌-◌, ◌*◌, ◌^◌, ◌<◌, ◌≤◌, ◌⊎◌, Bool, true, not, ◌&&◌, ◌||◌, ◌==◌, nat_lt, IsSomeAnd}
 use Rattle.field.specs.Symbols.{Symbols}
-use Rattle.code.specs.Codes.{Given, full, half_for, helper}
+use Rattle.code.specs.Codes.{Alike, File, Given, full, half_for, helper}
+use Rattle.code.specs.Codes.{column as column_of}
 use Rattle.refusal.specs.Refusals.{Reason, where_holds}
-use Rattle.refusal.specs.declared.Refusal.TheVariants.{NotRenewable, Out, Standing}
+use Rattle.refusal.specs.declared.Refusal.TheVariants.{NotRenewable}
 use Rattle.shelf.specs.Meaning.{Meaning, box_count, column, is_standing, symbol_at}
 use Rattle.stripe.specs.Stripes.{held}
 
@@ -12,13 +13,6 @@ use Rattle.stripe.specs.Stripes.{held}
 abbrev pub others_stand : (ℕ → Bool) → ℕ → ℕ → Bool
 others_stand stands x zero = true
 others_stand stands x (suc b) = (b == x || stands b) && others_stand stands x b
-
--- why a call is declined that wants box b to stand, or to be out
-abbrev pub box_out : {T : Type 0} → Meaning T → ℕ → Reason
-box_out s b = where_holds (not (is_standing s b)) Out
-
-abbrev pub box_stands : {T : Type 0} → Meaning T → ℕ → Reason
-box_stands s b = where_holds (is_standing s b) Standing
 
 -- of n data boxes and two parity boxes, halves do not renew box `lost`: it is a parity box, or another box is out
 abbrev pub not_renewable : ℕ → ℕ → (ℕ → Bool) → Reason
@@ -30,11 +24,17 @@ module _ (Y : Symbols) {T : Type 0} (value : T → Y.Symbol) (m from : ℕ) wher
   HalvesOf x s g =
       (h : ℕ) → h < 3 * m + 1 → (j : ℕ) → j < 2 ^ (m - 1) → g h j ≡ half_for (full Y m) x (held Y value m from s (helper (full Y m) x h)) j
 
+  -- the boxes but x hold their columns of the file f
+  abbrev pub OthersHold : ℕ → Meaning T → File (full Y m) → Type 0
+  OthersHold x s f = (b : ℕ) → b < 3 * m + 2 → b ≢ x → Alike (full Y m) (held Y value m from s b) (column_of (full Y m) f b)
+
   -- box x was given the column that the helpers' halves g give, whatever these are, and no other box has changed
   pub record Renewed (x : ℕ) (g : ℕ → ℕ → Y.Symbol) (old new : Meaning T) : Type 0 where
     pub taken : HalvesOf x old g
     pub given : Given (full Y m) x g (held Y value m from new x)
     pub others : (d : ℕ) → d ≢ suc x → column new d ≡ column old d
+    -- so where the other boxes hold a file's columns, it holds its own of that file
+    pub file : (f : File (full Y m)) → OthersHold x old f → Alike (full Y m) (held Y value m from new x) (f x)
 
   -- box x has come, and holds zero in every row outside the stripe; as many boxes and rows as before
   pub record PutIn (x : ℕ) (old new : Meaning T) : Type 0 where

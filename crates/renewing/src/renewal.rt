@@ -5,9 +5,10 @@ ghost use Rattle.code.specs.Codes.{Given, full};
 ghost use Rattle.code.specs.Contents.{at, parts};
 ghost use Rattle.refusal.specs.Refusals.{earliest, no_box, refusal, wrong_lengths};
 ghost use Rattle.renewing.specs.Exchanges.{Exchanged};
-ghost use Rattle.renewing.specs.Renewals.{PutIn, Renewed, box_out, box_stands, not_renewable, others_stand};
+ghost use Rattle.renewing.specs.Renewals.{PutIn, Renewed, not_renewable, others_stand};
 ghost use Rattle.shelf.specs.Meaning.{column, has_row, is_standing, symbol_at, with_symbol};
 ghost use Rattle.shelf_rows.specs.Rows.{has_rows, rows_at, with_rows};
+ghost use Rattle.stripe.specs.Reasons.{box_out, box_stands};
 ghost use Rattle.stripe.specs.Stripes.{OnlyStripe, has_stripe, no_stripe, stands};
 
 use crate::counting::{count_standing, renewable};

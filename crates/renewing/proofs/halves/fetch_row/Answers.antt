@@ -1,8 +1,5 @@
-use Rattle.std.proofs.Common.{is_some, ap, ◌∙◌}
-use Rattle.shelf.proofs.Meanings.{symbol_at_there}
+use Rattle.renewing.proofs.Numbers.{is_there}
 use Rattle.renewing.proofs.halves.fetch_row.Goals as goal
 
 pub unwrap-requires : goal.unwrap-requires
-unwrap-requires g c =
-    let s = c.args.shelf.now in
-    ap is_some (c.fetch.ensures.answer ∙ (symbol_at_there (g.S.Shelf.meaning s) (g.met.S.Shelf.sound s) c.args.b c.args.a c.requires).1)
+unwrap-requires g c = is_there _ _ _ _ (g.met.S.Shelf.sound c.args.shelf.now) c.requires c.fetch.ensures.answer
