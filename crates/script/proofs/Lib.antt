@@ -1,0 +1,5 @@
+pub mod CommandLaws
+pub mod LineLaws
+pub mod NumberLaws
+pub mod ScriptLaws
+pub mod Turns

@@ -1,0 +1,1 @@
+-- The lines of a transcript. Assumes nothing.
