@@ -1,11 +1,11 @@
 -- A command that is read is printed so, and one that is printed is read again.
-use Rattle.std.proofs.Common.{◌≡◌, ℕ, zero, suc, ◌+◌, ◌^◌, ◌<◌, ◌≤◌, ◌⊎◌, Bool, true, false, ◌&&◌, cond, eqb, ltb, List, [], ◌∷◌, ◌++◌, length, map, Option, Some, None, refl, sym, ap, subst, ◌∙◌, append_assoc, arith, inl, inr}
+use Rattle.std.proofs.Common.{◌≡◌, ℕ, ◌^◌, ◌<◌, ◌≤◌, true, cond, eqb, ltb, List, [], ◌∷◌, ◌++◌, length, map, Option, Some, None, refl, sym, ap, subst, ◌∙◌, append_assoc, arith, inl, inr}
 use Rattle.std.specs.List.{AllByRecursion, flat_map, list_all}
-use Rattle.std.proofs.lemmas.Bool.{cases_eq, eqb-true, eq-eqb, ne_eqb, and_parts, and_from, ltb-true, lt-ltb}
+use Rattle.std.proofs.lemmas.Bool.{eqb-true, and_parts, and_from, ltb-true, lt-ltb}
 use Rattle.std.proofs.lemmas.Option.{cond_some, same_Some}
 use Rattle.script.specs.Reading.{◌>>=◌, number_line_at, only_one, only_two, put_of, amend_of, bare_of, command_of, command_at, commands_at}
 use Rattle.script.specs.Scripts.{CommandValue, Put, Amend, Read, Column, Message, Lose, Renew, Rebuild, letter, numbers, number_line, number_words, line, IsNumber, IsCommand}
-use Rattle.script.proofs.LineLaws.{bind_some, chosen, LineTaken, number_line_takes, number_line_again}
+use Rattle.script.proofs.LineLaws.{bind_some, chosen, number_line_takes, number_line_again}
 
 all_below : (size : ℕ) (xs : List ℕ) → list_all (λ x. ltb x size) xs ≡ true → AllByRecursion (λ x. x < size) xs
 all_below size [] e = tt

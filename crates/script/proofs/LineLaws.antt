@@ -1,11 +1,10 @@
 -- A line of numbers that is read is printed so, and one that is printed is read again.
-use Rattle.std.proofs.Common.{◌≡◌, ℕ, zero, suc, ◌+◌, ◌^◌, ◌<◌, ◌≤◌, Bool, true, false, cond, eqb, List, [], ◌∷◌, ◌++◌, length, map, Option, Some, None, if◌then◌else◌, ◌⊎◌, refl, sym, ap, subst, ◌∙◌, append_assoc, arith, inl, inr}
+use Rattle.std.proofs.Common.{◌≡◌, ℕ, zero, suc, ◌<◌, ◌≤◌, Bool, true, false, cond, eqb, List, [], ◌∷◌, ◌++◌, length, map, Option, Some, None, if◌then◌else◌, ◌⊎◌, refl, sym, ap, subst, ◌∙◌, append_assoc, arith, inl, inr}
 use Rattle.std.specs.Fmt.{decimal}
 use Rattle.std.specs.List.{AllByRecursion, join_with_byte}
-use Rattle.std.specs.Option.{option_and_then}
 use Rattle.std.proofs.lemmas.Bool.{cases_eq, eqb-true, eq-eqb, ne_eqb}
 use Rattle.std.proofs.lemmas.Option.{cond_some, same_Some}
-use Rattle.script.specs.Reading.{◌>>=◌, first_byte, after_byte, number_at, ended_at, numbers_at, hyphen_or_numbers, number_line_at}
+use Rattle.script.specs.Reading.{◌>>=◌, is_digit, first_byte, after_byte, number_at, number_then, ended_at, numbers_at, hyphen_or_numbers, number_line_at}
 use Rattle.script.specs.Scripts.{IsNumber, line, number_words}
 use Rattle.script.proofs.NumberLaws.{number_takes, number_again}
 
@@ -35,6 +34,19 @@ pub first_takes : (bytes : List ℕ) (x : ℕ × List ℕ) → first_byte bytes 
 first_takes [] x e = absurd cc
 first_takes (b ∷ bs) x e = let same : (b, bs) ≡ x = same_Some _ _ e in rw (← same) refl
 
+pub number_then_takes : (wanted : ℕ) (bytes : List ℕ) (x : ℕ × List ℕ) → number_then wanted bytes ≡ Some x → (bytes ≡ decimal x.0 ++ wanted ∷ x.1) × IsNumber x.0
+unfolding number_then
+number_then_takes wanted bytes x e =
+    let a = bind_some (number_at bytes) (λ n. after_byte wanted n.1 >>= λ rest. Some (n.0, rest)) x e in
+    let b = bind_some (after_byte wanted a.0.1) (λ rest. Some (a.0.0, rest)) x a.2 in
+    let number = number_takes bytes a.0 a.1 in
+    subst (λ (y : ℕ × List ℕ). (bytes ≡ decimal y.0 ++ wanted ∷ y.1) × IsNumber y.0) (same_Some _ _ b.2)
+    (number.0 ∙ ap (λ rest. decimal a.0.0 ++ rest) (after_takes wanted a.0.1 b.0 b.1), number.1)
+
+pub number_then_again : (wanted n : ℕ) (rest : List ℕ) → IsNumber n → is_digit wanted ≡ false → number_then wanted (decimal n ++ wanted ∷ rest) ≡ Some (n, rest)
+unfolding number_then
+number_then_again wanted n rest small other = rw (number_again n wanted rest small other, after_again wanted rest) refl
+
 -- what ends a number
 abbrev pub end_byte : Bool → ℕ
 end_byte last = if last then 10 else 32
@@ -56,8 +68,8 @@ ended_takes bytes x e =
         elim (chosen (eqb e 10) (Some ((n, true), rest)) (cond (eqb e 32) (Some ((n, false), rest)) None) (Some x) found) [
           | inl h ↦ subst (λ (y : (ℕ × Bool) × List ℕ). (bytes ≡ decimal y.0.0 ++ end_byte y.0.1 ∷ y.1) × IsNumber y.0.0) (same_Some _ _ h.1) (whole ∙ ap (λ d. decimal n ++ d ∷ rest) (eqb-true e 10 h.0), small)
           | inr h ↦
-            let p = cond_some (eqb e 32) ((n, false), rest) x h.1 in
-            subst (λ (y : (ℕ × Bool) × List ℕ). (bytes ≡ decimal y.0.0 ++ end_byte y.0.1 ∷ y.1) × IsNumber y.0.0) p.1 (whole ∙ ap (λ d. decimal n ++ d ∷ rest) (eqb-true e 32 p.0), small)
+              let p = cond_some (eqb e 32) ((n, false), rest) x h.1 in
+              subst (λ (y : (ℕ × Bool) × List ℕ). (bytes ≡ decimal y.0.0 ++ end_byte y.0.1 ∷ y.1) × IsNumber y.0.0) p.1 (whole ∙ ap (λ d. decimal n ++ d ∷ rest) (eqb-true e 32 p.0), small)
         ]
 
 ended_again : (n : ℕ) (last : Bool) (rest : List ℕ) → IsNumber n → ended_at (decimal n ++ end_byte last ∷ rest) ≡ Some ((n, last), rest)

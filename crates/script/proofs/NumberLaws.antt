@@ -1,9 +1,8 @@
 -- A number that is read has these digits, and the digits of a number are read as it.
-use Rattle.std.proofs.Common.{◌≡◌, ℕ, zero, suc, ◌+◌, ◌-◌, ◌*◌, ◌/◌, ◌%◌, ◌^◌, ◌<◌, ◌≤◌, ◌≢◌, Bool, cond, true, false, ◌&&◌, ltb, leb, eqb, List, [], ◌∷◌, ◌++◌, Option, Some, None, refl, sym, ap, subst, ◌∙◌, append_assoc, arith, inl, inr}
+use Rattle.std.proofs.Common.{◌≡◌, ℕ, ◌+◌, ◌-◌, ◌*◌, ◌/◌, ◌%◌, ◌^◌, ◌<◌, ◌≤◌, ◌≢◌, cond, true, false, ◌&&◌, ltb, leb, List, [], ◌∷◌, ◌++◌, Some, None, refl, sym, ap, subst, ◌∙◌, append_assoc, arith, inl, inr}
 use Rattle.std.specs.Fmt.{decimal}
 use Rattle.std.proofs.lemmas.Bool.{cases_Bool, cases_eq, cases_lt, and_parts, and_from, leb-true, lt-ltb, le-leb, ltb-true, ne_eqb, eq-eqb}
 use Rattle.std.proofs.lemmas.Option.{cond_some, same_Some}
-use Rattle.std.proofs.lemmas.Bool.Decides.{nat_tests}
 use Rattle.std.proofs.lemmas.Fmt.{decimal_digit, decimal_step, decimal_by_steps}
 use Rattle.script.specs.Reading.{is_digit, digits_on, number_at}
 
@@ -24,15 +23,15 @@ digits_take n [] pos small = (refl, small)
 digits_take n (b ∷ bs) pos small =
     elim (cases_Bool (is_digit b && ltb n 100000000)) [
       | inl h ↦
-        let parts = and_parts (is_digit b) (ltb n 100000000) h in
-        let digit = and_parts (leb 48 b) (leb b 57) parts.0 in
-        let low : 48 ≤ b = leb-true _ _ digit.0 in
-        let high : b ≤ 57 = leb-true _ _ digit.1 in
-        let room : n < 100000000 = ltb-true _ _ parts.1 in
-        let more = digits_take (10 * n + (b - 48)) bs (omega arith) (omega arith) in
-        let same : decimal (10 * n + (b - 48)) ++ bs ≡ decimal n ++ b ∷ bs =
-            rw (decimal_more n (b - 48) pos small (omega arith), append_assoc) (let e : 48 + (b - 48) ≡ b = omega arith in rw e refl) in
-        rw h (more.0 ∙ same, more.1)
+          let parts = and_parts (is_digit b) (ltb n 100000000) h in
+          let digit = and_parts (leb 48 b) (leb b 57) parts.0 in
+          let low : 48 ≤ b = leb-true _ _ digit.0 in
+          let high : b ≤ 57 = leb-true _ _ digit.1 in
+          let room : n < 100000000 = ltb-true _ _ parts.1 in
+          let more = digits_take (10 * n + (b - 48)) bs (omega arith) (omega arith) in
+          let same : decimal (10 * n + (b - 48)) ++ bs ≡ decimal n ++ b ∷ bs =
+          rw (decimal_more n (b - 48) pos small (omega arith), append_assoc) (let e : 48 + (b - 48) ≡ b = omega arith in rw e refl) in
+          rw h (more.0 ∙ same, more.1)
       | inr h ↦ rw h (refl, small)
     ]
 
@@ -56,12 +55,12 @@ number_takes [] x e = absurd cc
 number_takes (b ∷ bs) x e =
     elim (cases_eq b 48) [
       | inl zero-is ↦
-        let found : Some (0, bs) ≡ Some x = sym (ap (λ t. cond t (Some (0, bs)) (cond (is_digit b) (Some (digits_on (b - 48) bs)) None)) (eq-eqb b 48 zero-is)) ∙ e in
-        subst (λ (y : ℕ × List ℕ). (b ∷ bs ≡ decimal y.0 ++ y.1) × (y.0 < 10 ^ 9)) (same_Some _ _ found) (rw (zero-is, decimal_zero) refl, omega arith)
+          let found : Some (0, bs) ≡ Some x = sym (ap (λ t. cond t (Some (0, bs)) (cond (is_digit b) (Some (digits_on (b - 48) bs)) None)) (eq-eqb b 48 zero-is)) ∙ e in
+          subst (λ (y : ℕ × List ℕ). (b ∷ bs ≡ decimal y.0 ++ y.1) × (y.0 < 10 ^ 9)) (same_Some _ _ found) (rw (zero-is, decimal_zero) refl, omega arith)
       | inr other ↦
-        let found = sym (ap (λ t. cond t (Some (0, bs)) (cond (is_digit b) (Some (digits_on (b - 48) bs)) None)) (ne_eqb b 48 other)) ∙ e in
-        let parts = cond_some (is_digit b) (digits_on (b - 48) bs) x found in
-        digit_takes b bs x other parts.0 parts.1
+          let found = sym (ap (λ t. cond t (Some (0, bs)) (cond (is_digit b) (Some (digits_on (b - 48) bs)) None)) (ne_eqb b 48 other)) ∙ e in
+          let parts = cond_some (is_digit b) (digits_on (b - 48) bs) x found in
+          digit_takes b bs x other parts.0 parts.1
     ]
 
 digit_at : (d : ℕ) → d < 10 → is_digit (48 + d) ≡ true
@@ -94,6 +93,6 @@ number_again n end rest small other =
     elim (cases_lt 0 n) [
       | inl pos ↦ number_on n small pos (end ∷ rest) ∙ rw other refl
       | inr none ↦
-        let e : n ≡ 0 = omega arith in
-        rw (e, decimal_zero) refl
+          let e : n ≡ 0 = omega arith in
+          rw (e, decimal_zero) refl
     ]

@@ -1,5 +1,5 @@
 -- Loops that read: what is read so far goes before what the rest gives.
-use Rattle.std.proofs.Common.{◌≡◌, ℕ, zero, suc, ◌+◌, ◌-◌, ◌<◌, ◌≤◌, Bool, true, false, List, [], ◌∷◌, ◌++◌, Option, Some, None, if◌then◌else◌, cond, length, get_or, drop, refl, sym, ap, ◌∙◌, append_assoc, arith}
+use Rattle.std.proofs.Common.{◌≡◌, ℕ, suc, ◌+◌, ◌-◌, ◌<◌, ◌≤◌, Bool, true, false, List, [], ◌∷◌, ◌++◌, Option, Some, None, if◌then◌else◌, length, get_or, drop, refl, sym, ap, ◌∙◌, append_assoc, arith}
 use Rattle.std.proofs.lemmas.List.{append-nil, drop_more, drop_all}
 use Rattle.script.specs.Reading.{◌>>=◌, ended_at, numbers_at, command_at, commands_at}
 use Rattle.script.specs.Scripts.{CommandValue}
@@ -27,7 +27,7 @@ numbers_step front limit i bytes inside =
   where
     by_last : (last : Bool) (n : ℕ) (rest : List ℕ)
         → with_front front (if last then Some (n ∷ [], rest) else (numbers_at (limit - (i + 1)) rest >>= λ others. Some (n ∷ others.0, others.1)))
-          ≡ (if last then Some (front ++ n ∷ [], rest) else with_front (front ++ n ∷ []) (numbers_at (limit - (i + 1)) rest))
+        ≡ (if last then Some (front ++ n ∷ [], rest) else with_front (front ++ n ∷ []) (numbers_at (limit - (i + 1)) rest))
     by_last true n rest = refl
     by_last false n rest = regroup front n (numbers_at (limit - (i + 1)) rest)
 

@@ -39,6 +39,13 @@ unfoldable pub number_at : List ℕ → Option (ℕ × List ℕ)
 number_at [] = None
 number_at (b ∷ bs) = if b == 48 then Some (0, bs) else (if is_digit b then Some (digits_on (b - 48) bs) else None)
 
+-- a number and one byte, which has to be the one that is wanted
+unfoldable pub number_then : ℕ → List ℕ → Option (ℕ × List ℕ)
+number_then wanted bytes = do
+  n ← number_at bytes
+  rest ← after_byte wanted n.1
+  Some (n.0, rest)
+
 -- a number and what ends it: whether that is the line feed, or else a space
 unfoldable pub ended_at : List ℕ → Option ((ℕ × Bool) × List ℕ)
 ended_at bytes = do
@@ -123,11 +130,9 @@ first_line_at bytes = do
   letter ← first_byte bytes
   field ← field_of letter.0
   rest ← after_byte 32 letter.1
-  m ← number_at rest
-  rest ← after_byte 32 m.1
-  count ← number_at rest
-  rest ← after_byte 10 count.1
-  if nat_lt 9 m.0 || (nat_lt count.0 1 || nat_lt 64 count.0) then None else Some ((field, m.0, count.0), rest)
+  m ← number_then 32 rest
+  count ← number_then 10 m.1
+  if nat_lt 9 m.0 || (nat_lt count.0 1 || nat_lt 64 count.0) then None else Some ((field, m.0, count.0), count.1)
 
 -- the second line: so many letters
 unfoldable pub second_line_at : ℕ → List ℕ → Option (List ℕ × List ℕ)

@@ -1,5 +1,5 @@
 -- What a script holds, and the bytes that it is printed as. Assumes nothing.
-use Rattle.std.specs.Prelude.{ℕ, ◌≤◌, ◌<◌, ◌^◌, List, [], ◌∷◌, ◌++◌, length, map, codes}
+use Rattle.std.specs.Prelude.{◌≡◌, ℕ, ◌≤◌, ◌<◌, ◌^◌, List, [], ◌∷◌, ◌++◌, length, map, codes}
 use Rattle.std.specs.Fmt.{decimal}
 use Rattle.std.specs.List.{flat_map, join_with_byte, AllByRecursion}
 use Rattle.script.specs.declared.commands.Command.{Command}
@@ -88,7 +88,7 @@ abbrev pub number_line : CommandValue → List ℕ
 number_line c = line (number_words (numbers c))
 
 -- the bytes of a script: the field, m and the count of commands; the commands' letters; a line of numbers for each command
-abbrev pub printed : ScriptValue → List ℕ
+unfoldable pub printed : ScriptValue → List ℕ
 printed s =
     line ((field_letter s.field ∷ []) ∷ decimal s.m ∷ decimal (length s.commands) ∷ [])
     ++ line (map letter s.commands ∷ [])
@@ -116,3 +116,8 @@ pub record IsScript (s : ScriptValue) : Type 0 where
   pub few : length s.commands ≤ 64
   pub each : AllByRecursion (IsCommand (size s.field)) s.commands
   pub short : length (printed s) ≤ 16384
+
+-- s is a script, and it is printed as the text
+pub record Prints (s : ScriptValue) (text : List ℕ) : Type 0 where
+  pub script : IsScript s
+  pub same : printed s ≡ text

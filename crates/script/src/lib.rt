@@ -7,4 +7,4 @@ mod numbers;
 mod reading;
 
 pub use commands::{Command, FieldName, Script};
-pub use reading::parse;
+pub use reading::{parse, scripts_stand};

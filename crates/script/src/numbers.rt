@@ -2,7 +2,7 @@
 // behind it.
 
 ghost use Rattle.std.specs.Prelude.{◌≡◌, ◌<◌, ◌^◌, option_map, Some};
-ghost use Rattle.script.specs.Reading.{Gives, after_byte, digits_on as digits_at, number_at, ended_at, numbers_at, number_line_at};
+ghost use Rattle.script.specs.Reading.{Gives, after_byte, digits_on as digits_at, number_at, number_then as number_before, ended_at, numbers_at, number_line_at};
 ghost use Rattle.script.specs.declared.numbers.Stop.TheVariants.{Memory};
 
 use std::alloc::{AllocError, AllocFailed, Global};
@@ -62,7 +62,7 @@ fn digits_on(first: u32, text: &[u8]) -> (u32, &[u8])
 
 // A number without needless zeros.
 #[tactic(auto, unfolding(crate::specs::Reading::number_at))]
-pub(crate) fn number(text: &[u8]) -> Option<(u32, &[u8])>
+fn number(text: &[u8]) -> Option<(u32, &[u8])>
     ensures { option_map (λ x. (x.0, x.1.now)) result ≡ number_at text.now }
 {
     match text {
@@ -70,6 +70,15 @@ pub(crate) fn number(text: &[u8]) -> Option<(u32, &[u8])>
         [digit @ b'1'..=b'9', rest @ ..] => Some(digits_on(u32::from(*digit - b'0'), rest)),
         _ => None,
     }
+}
+
+// A number and one byte, which has to be the one that is wanted.
+#[tactic(auto, unfolding(crate::specs::Reading::number_then))]
+pub(crate) fn number_then(wanted: u8, text: &[u8]) -> Option<(u32, &[u8])>
+    ensures { option_map (λ x. (x.0, x.1.now)) result ≡ number_before wanted text.now }
+{
+    let (n, rest) = number(text)?;
+    Some((n, after(wanted, rest)?))
 }
 
 // A number and what ends it: yes for the line feed, no for a space.

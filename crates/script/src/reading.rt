@@ -1,12 +1,12 @@
 // The parser of scripts.
 
-ghost use Rattle.std.specs.Prelude.{◌≡◌, ◌≢◌, IfOk, IfSome, IfNone, Some, option_map, map, nat_lt};
+ghost use Rattle.std.specs.Prelude.{◌≡◌, IfOk, IfSome, IfNone, Some, option_map, map, nat_lt};
 ghost use Rattle.std.specs.List.{list_all};
 ghost use Rattle.script.specs.Reading.{Gives, bare_of, put_of, amend_of, first_byte, only_one, only_two, command_of, command_at, commands_at, field_of, first_line_at, second_line_at, script_at};
-ghost use Rattle.script.specs.Scripts.{IsScript, ScriptValue, command_value, printed, script_value};
+ghost use Rattle.script.specs.Scripts.{IsScript, Prints, ScriptValue, command_value, printed, script_value};
 
 use crate::commands::{Command, FieldName, Script};
-use crate::numbers::{Stop, after, number, number_line};
+use crate::numbers::{Stop, after, number_line, number_then};
 use std::alloc::{AllocError, Global};
 
 // What the first line says.
@@ -36,9 +36,8 @@ fn first_line(text: &[u8]) -> Option<(FirstLine, &[u8])>
 {
     let (letter, rest) = text.split_first()?;
     let field = field(*letter as char)?;
-    let (m, rest) = number(after(b' ', rest)?)?;
-    let (count, rest) = number(after(b' ', rest)?)?;
-    let rest = after(b'\n', rest)?;
+    let (m, rest) = number_then(b' ', after(b' ', rest)?)?;
+    let (count, rest) = number_then(b'\n', rest)?;
     if 9 < m || count < 1 || 64 < count {
         return None;
     }
@@ -150,12 +149,7 @@ fn command_with(size: u32, letter: char, numbers: Vec<u32>) -> Option<Command>
 
 // A command, from its letter and its line of numbers.
 #[tactic(auto, unfolding(crate::specs::Reading::command_at))]
-fn command(
-    alloc: Global,
-    size: u32,
-    letter: char,
-    text: &[u8],
-) -> Result<(Command, &[u8]), Stop>
+fn command(alloc: Global, size: u32, letter: char, text: &[u8]) -> Result<(Command, &[u8]), Stop>
     ensures { Gives (λ x. (command_value x.0, x.1.now)) result (command_at size letter text.now) }
 {
     let (numbers, rest) = number_line(alloc, 1152, text)?;
@@ -204,14 +198,14 @@ fn script(alloc: Global, text: &[u8]) -> Result<Script, Stop>
     })
 }
 
-// Reads a script: all of the text, if it is one. Err where memory runs out.
+// Reads a script, from all of the text. Err where memory runs out.
 pub fn parse(alloc: Global, text: &[u8]) -> Result<Option<Script>, AllocError>
     // What is read is a script, and is printed as the text.
-    ensures read { IfOk result (λ r. IfSome r (λ s. IsScript (script_value s) × (printed (script_value s) ≡ text.now))) }
+    ensures read { IfOk result (λ r. IfSome r (λ s. Prints (script_value s) text.now)) }
     // Nothing is read only where no script is printed as the text.
-    ensures none { IfOk result (λ r. IfNone r ((s : ScriptValue) → IsScript s → printed s ≢ text.now)) }
-    // No other script is printed as the text.
-    ensures only { IfOk result (λ r. (s : ScriptValue) → IsScript s → printed s ≡ text.now → option_map script_value r ≡ Some s) }
+    ensures none { IfOk result (λ r. IfNone r ((s : ScriptValue) → ¬ (Prints s text.now))) }
+    // A script that is printed as the text is read, so there is only one.
+    ensures only { IfOk result (λ r. (s : ScriptValue) → Prints s text.now → option_map script_value r ≡ Some s) }
 {
     match script(alloc, text) {
         Ok(script) => Ok(Some(script)),
@@ -219,3 +213,8 @@ pub fn parse(alloc: Global, text: &[u8]) -> Result<Option<Script>, AllocError>
         Err(Stop::Memory) => Err(AllocError),
     }
 }
+
+// A theorem of what scripts are printed as: no two are printed alike.
+pub fn scripts_stand()
+    ensures { (s t : ScriptValue) → IsScript s → IsScript t → printed s ≡ printed t → s ≡ t }
+{}

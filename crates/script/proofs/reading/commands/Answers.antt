@@ -1,8 +1,7 @@
-use Rattle.std.proofs.Common.{◌≡◌, ◌∙◌, map, List, ap, refl}
+use Rattle.std.proofs.Common.{◌∙◌, map}
 use Rattle.std.proofs.lemmas.List.{map_push}
-use Rattle.script.specs.Reading.{commands_at}
-use Rattle.script.specs.Scripts.{command_value, CommandValue}
-use Rattle.script.proofs.Turns.{with_front, commands_next}
+use Rattle.script.specs.Scripts.{command_value}
+use Rattle.script.proofs.Turns.{commands_next}
 use Rattle.script.proofs.reading.commands.Goals as goal
 
 pub loop-letter-preserved : goal.loop-letter-preserved
