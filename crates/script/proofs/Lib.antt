@@ -3,3 +3,4 @@ pub mod LineLaws
 pub mod NumberLaws
 pub mod ScriptLaws
 pub mod Turns
+pub mod Words

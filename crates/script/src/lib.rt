@@ -5,6 +5,8 @@
 mod commands;
 mod numbers;
 mod reading;
+mod transcript;
 
 pub use commands::{Command, FieldName, Script};
 pub use reading::{parse, scripts_stand};
+pub use transcript::{Answer, Line, write_line};
