@@ -107,8 +107,8 @@ takes_numbers size Rebuild small is = (omega arith, tt)
 command_takes : (size l : ℕ) (bytes : List ℕ) (x : CommandValue × List ℕ) → command_at size l bytes ≡ Some x → (letter x.0 ≡ l) × (bytes ≡ number_line x.0 ++ x.1) × IsCommand size x.0
 unfolding command_at
 command_takes size l bytes x e =
-    let a = bind_some (number_line_at 1152 bytes) (λ ns. command_of size l ns.0 >>= λ command. Some (command, ns.1)) x e in
-    let b = bind_some (command_of size l a.0.0) (λ command. Some (command, a.0.1)) x a.2 in
+    let a = bind_some (number_line_at 1152 bytes) _ x e in
+    let b = bind_some (command_of size l a.0.0) _ x a.2 in
     let t = number_line_takes 1152 bytes a.0 a.1 in
     let is = command_of_takes size l a.0.0 b.0 t.few t.each b.1 in
     subst (λ (y : CommandValue × List ℕ). (letter y.0 ≡ l) × (bytes ≡ number_line y.0 ++ y.1) × IsCommand size y.0) (same_Some _ _ b.2)
@@ -130,8 +130,8 @@ unfolding commands_at
 commands_take size [] bytes x e =
     subst (λ (y : List CommandValue × List ℕ). CommandsTaken size [] bytes y.0 y.1) (same_Some _ _ e) (record { letters_are = refl; parts = refl; each = tt })
 commands_take size (l ∷ ls) bytes x e =
-    let a = bind_some (command_at size l bytes) (λ first. commands_at size ls first.1 >>= λ others. Some (first.0 ∷ others.0, others.1)) x e in
-    let b = bind_some (commands_at size ls a.0.1) (λ others. Some (a.0.0 ∷ others.0, others.1)) x a.2 in
+    let a = bind_some (command_at size l bytes) _ x e in
+    let b = bind_some (commands_at size ls a.0.1) _ x a.2 in
     let first = command_takes size l bytes a.0 a.1 in
     let others = commands_take size ls a.0.1 b.0 b.1 in
     subst (λ (y : List CommandValue × List ℕ). CommandsTaken size (l ∷ ls) bytes y.0 y.1) (same_Some _ _ b.2)

@@ -37,8 +37,8 @@ first_takes (b ∷ bs) x e = let same : (b, bs) ≡ x = same_Some _ _ e in rw (�
 pub number_then_takes : (wanted : ℕ) (bytes : List ℕ) (x : ℕ × List ℕ) → number_then wanted bytes ≡ Some x → (bytes ≡ decimal x.0 ++ wanted ∷ x.1) × IsNumber x.0
 unfolding number_then
 number_then_takes wanted bytes x e =
-    let a = bind_some (number_at bytes) (λ n. after_byte wanted n.1 >>= λ rest. Some (n.0, rest)) x e in
-    let b = bind_some (after_byte wanted a.0.1) (λ rest. Some (a.0.0, rest)) x a.2 in
+    let a = bind_some (number_at bytes) _ x e in
+    let b = bind_some (after_byte wanted a.0.1) _ x a.2 in
     let number = number_takes bytes a.0 a.1 in
     subst (λ (y : ℕ × List ℕ). (bytes ≡ decimal y.0 ++ wanted ∷ y.1) × IsNumber y.0) (same_Some _ _ b.2)
     (number.0 ∙ ap (λ rest. decimal a.0.0 ++ rest) (after_takes wanted a.0.1 b.0 b.1), number.1)
@@ -54,9 +54,9 @@ end_byte last = if last then 10 else 32
 ended_takes : (bytes : List ℕ) (x : (ℕ × Bool) × List ℕ) → ended_at bytes ≡ Some x → (bytes ≡ decimal x.0.0 ++ end_byte x.0.1 ∷ x.1) × IsNumber x.0.0
 unfolding ended_at
 ended_takes bytes x e =
-    let a = bind_some (number_at bytes) (λ n. first_byte n.1 >>= λ end. if eqb end.0 10 then Some ((n.0, true), end.1) else (if eqb end.0 32 then Some ((n.0, false), end.1) else None)) x e in
+    let a = bind_some (number_at bytes) _ x e in
     let n = a.0 in
-    let b = bind_some (first_byte n.1) (λ end. if eqb end.0 10 then Some ((n.0, true), end.1) else (if eqb end.0 32 then Some ((n.0, false), end.1) else None)) x a.2 in
+    let b = bind_some (first_byte n.1) _ x a.2 in
     let end = b.0 in
     let number = number_takes bytes n a.1 in
     let whole : bytes ≡ decimal n.0 ++ end.0 ∷ end.1 = number.0 ∙ ap (λ rest. decimal n.0 ++ rest) (first_takes n.1 end b.1) in
@@ -102,7 +102,7 @@ numbers_take : (limit : ℕ) (bytes : List ℕ) (x : List ℕ × List ℕ) → n
 unfolding numbers_at
 numbers_take zero bytes x e = absurd cc
 numbers_take (suc limit) bytes x e =
-    let a = bind_some (ended_at bytes) (λ n. if n.0.1 then Some (n.0.0 ∷ [], n.1) else (numbers_at limit n.1 >>= λ others. Some (n.0.0 ∷ others.0, others.1))) x e in
+    let a = bind_some (ended_at bytes) _ x e in
     let taken = ended_takes bytes a.0 a.1 in
     by (numbers_take limit) a.0.0.0 a.0.0.1 a.0.1 taken.0 taken.1 a.2
   where
@@ -113,7 +113,7 @@ numbers_take (suc limit) bytes x e =
         subst (λ (y : List ℕ × List ℕ). NumbersTaken (suc limit) bytes y.0 y.1) (same_Some _ _ found)
         (record { parts = whole ∙ sym (line_one (decimal n) rest); some = omega arith; few = omega arith; each = (small, tt) })
     by before n false rest whole small found =
-        let b = bind_some (numbers_at limit rest) (λ others. Some (n ∷ others.0, others.1)) x found in
+        let b = bind_some (numbers_at limit rest) _ x found in
         let t = before rest b.0 b.1 in
         subst (λ (y : List ℕ × List ℕ). NumbersTaken (suc limit) bytes y.0 y.1) (same_Some _ _ b.2)
         (record {
@@ -146,8 +146,8 @@ no_hyphen_first : (limit : ℕ) (bytes : List ℕ) (x : List ℕ × List ℕ) �
 unfolding numbers_at ended_at
 no_hyphen_first zero bytes x e = absurd cc
 no_hyphen_first (suc limit) bytes x e =
-    let a = bind_some (ended_at bytes) (λ n. if n.0.1 then Some (n.0.0 ∷ [], n.1) else (numbers_at limit n.1 >>= λ others. Some (n.0.0 ∷ others.0, others.1))) x e in
-    let b = bind_some (number_at bytes) (λ n. first_byte n.1 >>= λ end. if eqb end.0 10 then Some ((n.0, true), end.1) else (if eqb end.0 32 then Some ((n.0, false), end.1) else None)) a.0 a.1 in
+    let a = bind_some (ended_at bytes) _ x e in
+    let b = bind_some (number_at bytes) _ a.0 a.1 in
     no_hyphen bytes b.0 b.1
 
 -- a line of numbers or of a hyphen
@@ -169,7 +169,7 @@ number_line_takes limit bytes x e = by (after_byte 45 bytes) refl e
         let t = numbers_take limit bytes x found in
         record { parts = t.parts ∙ ap (λ words. line words ++ x.1) (as_words x.0 t.some); few = t.few; each = t.each }
     by (Some rest) is found =
-        let b = bind_some (after_byte 10 rest) (λ more. Some ([], more)) x found in
+        let b = bind_some (after_byte 10 rest) _ x found in
         let whole : bytes ≡ 45 ∷ 10 ∷ b.0 = after_takes 45 bytes rest is ∙ ap (λ r. 45 ∷ r) (after_takes 10 rest b.0 b.1) in
         subst (λ (y : List ℕ × List ℕ). LineTaken limit bytes y.0 y.1) (same_Some _ _ b.2) (record { parts = whole; few = omega arith; each = tt })
 

@@ -27,7 +27,7 @@ impl FieldName {
 }
 
 // A command, with the boxes, rows and symbols that it takes, by their numbers.
-#[derive(Debug, Drop)]
+#[derive(Debug, PartialEq, Drop)]
 pub enum Command {
     Put(Vec<u32>),
     Amend {
@@ -72,7 +72,7 @@ impl Command {
 
 // A script: a field, the size m of a cabinet over it, and commands to be run
 // in their order.
-#[derive(Debug, Drop)]
+#[derive(Debug, PartialEq, Drop)]
 pub struct Script {
     pub field: FieldName,
     pub m: usize,
