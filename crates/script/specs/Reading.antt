@@ -29,7 +29,7 @@ after_byte wanted (b ∷ bs) = if b == wanted then Some bs else None
 abbrev pub is_digit : ℕ → Bool
 is_digit b = nat_le 48 b && nat_le b 57
 
--- the number n goes on with the digits at the front, while it has fewer than nine
+-- the number n goes on with the digits at the front, up to nine in all
 unfoldable pub digits_on : ℕ → List ℕ → ℕ × List ℕ
 digits_on n [] = (n, [])
 digits_on n (b ∷ bs) = if is_digit b && nat_lt n 100000000 then digits_on (10 * n + (b - 48)) bs else (n, b ∷ bs)

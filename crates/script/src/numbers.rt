@@ -32,6 +32,9 @@ impl<T: Drop> From<AllocFailed<T>> for Stop {
     }
 }
 
+// From this number on, another digit would be the tenth.
+const NINE_DIGITS: u32 = 100_000_000;
+
 // Passes over one byte, which has to be the one that is wanted.
 #[tactic(auto, unfolding(crate::specs::Reading::after_byte))]
 pub(crate) fn after(wanted: u8, text: &[u8]) -> Option<&[u8]>
@@ -44,7 +47,7 @@ pub(crate) fn after(wanted: u8, text: &[u8]) -> Option<&[u8]>
 }
 
 // The number that begins with `first` and goes on with the digits at the front
-// of the text. It has at most nine digits: with eight it can take one more.
+// of the text, up to nine in all.
 #[tactic(auto, unfolding(crate::specs::Reading::digits_on))]
 fn digits_on(first: u32, text: &[u8]) -> (u32, &[u8])
     requires { first < 10 ^ 9 }
@@ -52,7 +55,7 @@ fn digits_on(first: u32, text: &[u8]) -> (u32, &[u8])
 {
     let mut n = first;
     for (i, digit) in text.iter().enumerate() {
-        if !digit.is_ascii_digit() || 100_000_000 <= n {
+        if !digit.is_ascii_digit() || NINE_DIGITS <= n {
             return (n, &text[i..]);
         }
         n = 10 * n + u32::from(*digit - b'0');

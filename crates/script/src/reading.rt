@@ -9,6 +9,15 @@ use crate::commands::{Command, FieldName, Script};
 use crate::numbers::{Stop, after, number_line, number_then};
 use std::alloc::{AllocError, Global};
 
+// The longest script, in bytes.
+const MOST_BYTES: usize = 16384;
+// The largest m.
+const MOST_SIZE: u32 = 9;
+
+const MOST_COMMANDS: u32 = 64;
+// How many numbers one command takes at most.
+const MOST_NUMBERS: usize = 1152;
+
 // What the first line says.
 #[derive(Clone, Copy)]
 struct FirstLine {
@@ -38,7 +47,7 @@ fn first_line(text: &[u8]) -> Option<(FirstLine, &[u8])>
     let field = field(*letter as char)?;
     let (m, rest) = number_then(b' ', after(b' ', rest)?)?;
     let (count, rest) = number_then(b'\n', rest)?;
-    if 9 < m || count < 1 || 64 < count {
+    if MOST_SIZE < m || count < 1 || MOST_COMMANDS < count {
         return None;
     }
     Some((FirstLine { field, m, count }, rest))
@@ -152,7 +161,7 @@ fn command_with(size: u32, letter: char, numbers: Vec<u32>) -> Option<Command>
 fn command(alloc: Global, size: u32, letter: char, text: &[u8]) -> Result<(Command, &[u8]), Stop>
     ensures { Gives (λ x. (command_value x.0, x.1.now)) result (command_at size letter text.now) }
 {
-    let (numbers, rest) = number_line(alloc, 1152, text)?;
+    let (numbers, rest) = number_line(alloc, MOST_NUMBERS, text)?;
     let command = command_with(size, letter, numbers).ok_or(Stop::Malformed)?;
     Ok((command, rest))
 }
@@ -182,7 +191,7 @@ fn commands<'a>(
 fn script(alloc: Global, text: &[u8]) -> Result<Script, Stop>
     ensures { Gives script_value result (script_at text.now) }
 {
-    if 16384 < text.len() {
+    if MOST_BYTES < text.len() {
         return Err(Stop::Malformed);
     }
     let (first, rest) = first_line(text).ok_or(Stop::Malformed)?;
