@@ -1,3 +1,3 @@
 pub mod Columns
 pub mod Rows
-mod Turns
+pub mod Turns

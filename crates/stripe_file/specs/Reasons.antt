@@ -4,11 +4,6 @@ use Rattle.missing.specs.Missing.{present}
 use Rattle.missing.specs.declared.Missing.{Missing}
 use Rattle.refusal.specs.Refusals.{Reason, where_holds}
 use Rattle.refusal.specs.declared.Refusal.TheVariants.{ManyOut, Out}
-use Rattle.shelf.specs.Meaning.{Meaning, is_standing}
-
--- box b does not stand
-abbrev pub box_out : {T : Type 0} → Meaning T → ℕ → Reason
-box_out s b = where_holds (not (is_standing s b)) Out
 
 -- of the boxes in the places below n, one that is asked for does not stand
 abbrev pub some_out : (ℕ → Bool) → (ℕ → Bool) → ℕ → Bool

@@ -3,7 +3,7 @@ ghost use Rattle.std.specs.Prelude.{◌≡◌, ◌+◌, ◌*◌, ◌^◌, [], �
 ghost use Rattle.refusal.specs.Refusals.{earliest, no_box, refusal, wrong_lengths};
 ghost use Rattle.shelf_rows.specs.Rows.{rows_at};
 ghost use Rattle.stripe.specs.Stripes.{no_stripe};
-ghost use Rattle.stripe_file.specs.Reasons.{box_out};
+ghost use Rattle.stripe.specs.Reasons.{box_out};
 
 use field::Sums;
 use refusal::{Refusal, fitting, numbered, refuse_if};

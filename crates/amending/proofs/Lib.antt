@@ -1,0 +1,3 @@
+pub mod Amends
+pub mod Moves
+pub mod Singles

@@ -1,0 +1,2 @@
+pub mod Amendments
+pub mod Changes

@@ -1,0 +1,13 @@
+pub mod Accepted
+pub mod Alike
+pub mod Counts
+pub mod Fitted
+pub mod Lengths
+pub mod Lists
+pub mod Newest
+pub mod Reasons
+pub mod Remembered
+pub mod Runs
+pub mod Stands
+pub mod Steps
+pub mod Tests

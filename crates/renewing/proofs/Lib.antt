@@ -1,0 +1,3 @@
+pub mod Exchanging
+pub mod Numbers
+pub mod Restored
