@@ -1,5 +1,5 @@
 -- Lemmas on a file amended in one symbol, and the boxes moved by their columns of the change. Assumes nothing.
-use Rattle.std.proofs.Common.{◌≡◌, ◌≢◌, ℕ, suc, ◌+◌, ◌*◌, ◌^◌, ◌<◌, ◌≤◌, ◌⊎◌, ⊎_elim, Bool, true, List, [], ◌∷◌, map, length, slice_index_or, slice_set, sym, refl, ap, ap₂, ◌∙◌, subst, inl, inr, arith, tests, get_or-set_other, get_or-set_same}
+use Rattle.std.proofs.Common.{◌≡◌, ◌≢◌, ℕ, suc, ◌+◌, ◌-◌, ◌*◌, ◌^◌, ◌<◌, ◌≤◌, ◌⊎◌, ⊎_elim, Bool, true, List, [], ◌∷◌, map, length, slice_index_or, slice_set, sym, refl, ap, ap₂, ◌∙◌, subst, inl, inr, arith, tests, get_or-set_other, get_or-set_same}
 use mathlib.Core.Path.{fun_ext}
 use Rattle.std.proofs.lemmas.Bool.{cases_order}
 use Rattle.std.proofs.lemmas.List.{get_or-map, length-map, map-set}
@@ -22,7 +22,11 @@ use Rattle.amending.specs.Changes.{Moved, single, touches}
 use Rattle.amending.proofs.Moves.{by_place, plus_none, single_else, single_here}
 use Rattle.amending.proofs.Singles.{column_plus}
 
--- the row of a data box has a place of its own in a file
+-- the row of a data box has a place in a file, and one of its own
+pub cell_inside : (m b a rows : ℕ) → rows ≡ 2 ^ m → 1 ≤ b → b ≤ 3 * m → a < 2 ^ m → (b - 1) * rows + a < 3 * m * 2 ^ m
+cell_inside m b a rows er first last row =
+    omega (arith, ap (λ r. (b - 1) * r + a) er, mul-add-lt (b - 1) (2 ^ m) a (3 * m) (omega arith) row)
+
 apart : (n e r b a : ℕ) → r < n → a < n → (e ≢ b) ⊎ (r ≢ a) → e * n + r ≢ b * n + a
 apart n e r b a l h w q =
     elim (cases_order e b) [
@@ -30,6 +34,10 @@ apart n e r b a l h w q =
       | inr (inl x) ↦ absurd (omega (arith, mul-add-lt e n r b x l))
       | inr (inr x) ↦ absurd (omega (arith, mul-add-lt b n a e x h))
     ]
+
+-- what is read from a buffer
+pub element : (Y : Symbols) {T : Type 0} (v : T → Y.Symbol) (xs : List T) (k : ℕ) (y : T) → k < length xs → y ≡ slice_index_or xs k y → v y ≡ at Y v xs k
+element Y v xs k y h e = ap v e ∙ sym (get_or-map v xs k y Y.ring.zero h)
 
 module _ {A : Type 0} (c : Code A) where
   -- columns of files that are the same
@@ -143,16 +151,16 @@ module _ (Y : Symbols) {T : Type 0} (v : T → Y.Symbol) (m from b a place : ℕ
       not_chosen : (e r : ℕ) → (e ≢ b) ⊎ (r ≢ a) → with_cell Y b a (v x) file e r ≡ file e r
       not_chosen e r n = grind (arith, tests)
 
-  -- the change, as the program finds it
-  pub change_is : (y z : T) → y ≡ slice_index_or xs place y → v z ≡ ◌∸◌ Y.ring (v x) (v y) → v z ≡ change
-  change_is y z ey ez = ez ∙ ap (◌∸◌ Y.ring (v x)) (ap v ey ∙ sym (get_or-map v xs place y Y.ring.zero inside) ∙ ap (at Y v xs) ep)
+  -- the change, by the file's columns
+  pub change_is : (z : Y.Symbol) → z ≡ ◌∸◌ Y.ring (v x) (at Y v xs place) → z ≡ change
+  change_is z e = e ∙ ap (λ k. ◌∸◌ Y.ring (v x) (at Y v xs k)) ep
 
-  pub amended : (s t : Meaning T) (d : Y.Symbol) → d ≡ change → StripeFile Y v m from s file → Moved Y v m from (column (full Y m) (single Y b a d)) (touches (full Y m) b a) s t
-      → Amended Y v m from b a (v x) s t after
-  amended s t d ed was moves =
+  pub amended : (s t : Meaning T) (d : Y.Symbol) (ys : List T) → ys ≡ after → d ≡ change → StripeFile Y v m from s file → Moved Y v m from (column (full Y m) (single Y b a d)) (touches (full Y m) b a) s t
+      → Amended Y v m from b a (v x) s t ys
+  amended s t d ys ey ed was moves =
       let moved = subst (λ z. Moved Y v m from (column (full Y m) (single Y b a z)) (touches (full Y m) b a) s t) ed moves in
       let made : Same (full Y m) (parts Y v (2 ^ m) after) (λ e r. Y.ring.plus (file e r) (single Y b a change e r)) = λ e l r w. cell e r w ∙ sum_cell e r in
-      record {
+      subst (Amended Y v m from b a (v x) s t) (sym ey) record {
         file = file;
         was = was;
         buffered = λ e l r w. cell e r w;

@@ -1,5 +1,5 @@
 -- Lemmas on what moves in a stripe, one write after another. Assumes nothing.
-use Rattle.std.proofs.Common.{◌≡◌, ◌≢◌, ℕ, suc, ◌+◌, ◌*◌, ◌^◌, ◌<◌, ◌⊎◌, ⊎_elim, Bool, true, false, ◌&&◌, ◌||◌, ◌==◌, nat_le, Some, None, is_some, sym, refl, ap, ap₂, ◌∙◌, subst, inl, inr, true≢false, arith, tests}
+use Rattle.std.proofs.Common.{◌≡◌, ◌≢◌, ℕ, suc, ◌+◌, ◌*◌, ◌^◌, ◌<◌, ◌⊎◌, ⊎_elim, Bool, true, false, ◌&&◌, ◌||◌, ◌==◌, nat_le, Some, None, is_some, sym, refl, ap, ap₂, ◌∙◌, subst, inl, inr, true≢false, arith, tests, Option, MatchOption, IsNone, IsSomeAnd}
 use Rattle.std.proofs.lemmas.Bool.{cases_eq}
 use Rattle.field.specs.Symbols.{Symbols}
 use Rattle.shelf.specs.Laws.{Stored}
@@ -130,12 +130,19 @@ module _ (Y : Symbols) where
         only = only_same m from s t same;
       }
 
-      -- the same by the box's number
-      pub moved_number : (n : ℕ) → n ≡ suc b → (u : Meaning T) (x y : T) → Some x ≡ symbol_at s n (from + a) → u ≡ s → v y ≡ Y.ring.plus (v x) d → t ≡ with_symbol u n (from + a) y
-          → Stored s (with_symbol s n (from + a) y) n (from + a) y → Moved Y v m from (single Y b a d) (λ e r. e == b && r == a) s t
-      moved_number n en u x y there same sum put stored =
-          moved_store x y (ap (λ i. symbol_at s i (from + a)) (sym en) ∙ sym there) sum (put ∙ ap₂ (λ w i. with_symbol w i (from + a) y) same en)
-          (subst (λ i. Stored s (with_symbol s i (from + a) y) i (from + a) y) en stored)
-
-      pub absent_number : (n : ℕ) → n ≡ suc b → None ≡ symbol_at s n (from + a) → t ≡ s → Moved Y v m from (single Y b a d) (λ e r. e == b && r == a) s t
-      absent_number n en out same = moved_absent (ap (λ i. symbol_at s i (from + a)) (sym en) ∙ sym out) same
+      -- the same, as the program tells it
+      pub moved_told : (n : ℕ) → n ≡ suc b → (o : Option T) → MatchOption (symbol_at s n (from + a)) (IsNone o) (λ x. IsSomeAnd o (λ y. v y ≡ Y.ring.plus (v x) d))
+          → MatchOption o (t ≡ s) (λ y. t ≡ with_symbol s n (from + a) y) → ((y : T) → Stored s (with_symbol s n (from + a) y) n (from + a) y)
+          → Moved Y v m from (single Y b a d) (λ e r. e == b && r == a) s t
+      moved_told n en o sum after stored =
+          by (symbol_at s (suc b) (from + a)) refl o (subst (λ i. MatchOption (symbol_at s i (from + a)) (IsNone o) (λ x. IsSomeAnd o (λ y. v y ≡ Y.ring.plus (v x) d))) en sum)
+          (subst (λ i. MatchOption o (t ≡ s) (λ y. t ≡ with_symbol s i (from + a) y)) en after)
+          (subst (λ i. (y : T) → Stored s (with_symbol s i (from + a) y) i (from + a) y) en stored)
+        where
+          by : (there : Option T) → symbol_at s (suc b) (from + a) ≡ there → (o : Option T) → MatchOption there (IsNone o) (λ x. IsSomeAnd o (λ y. v y ≡ Y.ring.plus (v x) d))
+              → MatchOption o (t ≡ s) (λ y. t ≡ with_symbol s (suc b) (from + a) y) → ((y : T) → Stored s (with_symbol s (suc b) (from + a) y) (suc b) (from + a) y)
+              → Moved Y v m from (single Y b a d) (λ e r. e == b && r == a) s t
+          by None q None none same k = moved_absent q same
+          by None q (Some y) none put k = absurd (true≢false none)
+          by (Some x) q None none same k = absurd none
+          by (Some x) q (Some y) sum put k = moved_store x y q sum put (k y)

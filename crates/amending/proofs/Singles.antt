@@ -1,5 +1,5 @@
 -- Lemmas on the file that is zero but for one symbol: what each box holds of it. Assumes nothing.
-use Rattle.std.proofs.Common.{◌≡◌, ◌≢◌, ℕ, zero, suc, ◌+◌, ◌*◌, ◌<◌, ⊎_elim, Bool, true, false, not, ◌&&◌, ◌||◌, ◌==◌, if◌then◌else◌, [], ◌∷◌, sym, refl, ap, ap₂, ◌∙◌, subst, inl, inr, true≢false, arith}
+use Rattle.std.proofs.Common.{◌≡◌, ◌≢◌, ℕ, zero, suc, ◌+◌, ◌*◌, ◌^◌, ◌<◌, ⊎_elim, Bool, true, false, not, ◌&&◌, ◌||◌, ◌==◌, if◌then◌else◌, [], ◌∷◌, sym, refl, ap, ap₂, ◌∙◌, subst, inl, inr, true≢false, arith}
 use Rattle.std.proofs.lemmas.Bool.{cases_eq}
 use mathlib.Core.Path.{fun_ext}
 use Rattle.boxes.specs.Boxes.{BlockOf}
@@ -12,7 +12,7 @@ use Rattle.code.specs.Rows.{digit, odd, partner}
 use Rattle.code.specs.declared.Kind.{Kind}
 use Rattle.code.specs.declared.Kind.TheVariants.{Lower, Upper, Sum}
 use Rattle.code.proofs.Columns.{by_box, column_data, column_first, column_second}
-use Rattle.code.proofs.Digits.{bit_to_c, rows, to_bit_c, to_to_c}
+use Rattle.code.proofs.Digits.{bit_to_c, partner_lt, rows, to_bit_c, to_to_c}
 use Rattle.code.proofs.Halves.{after_op}
 use Rattle.code.proofs.Matrices.{mat}
 use Rattle.code.proofs.Operators.{op_add}
@@ -267,14 +267,14 @@ module _ (Y : Symbols) (m b a : ℕ) (d : Y.Symbol) where
         one true true z n = absurd (true≢false n)
 
     -- by the numbers of the program
-    pub image_written : (n r : ℕ) (w : Bool) → n ≡ suc (3 * m) → r ≡ other_row c b a → w ≡ carries (kind c b) up
+    pub image_written : (n r j : ℕ) (w x : Bool) (kd : Kind) → n ≡ suc (3 * m) → r ≡ other_row c b a → w ≡ carries kd x → kd ≡ kind c b → x ≡ odd (digit j a) → j ≡ k
         → Moved Y v m from (single Y n a own) (λ e i. e == n && i == a) s t
         → OnTrue w (Moved Y v m from (single Y n r across) (λ e i. e == n && i == r) t u) → OnFalse w (u ≡ t)
         → Moved Y v m from imaged in_second s u
-    image_written n r w en er ew first second same =
-        image_moved w ew (subst (λ j. Moved Y v m from (single Y j a own) (λ e i. e == j && i == a) s t) en first)
-        (subst (λ j. OnTrue w (Moved Y v m from (single Y (suc (3 * m)) j across) (λ e i. e == suc (3 * m) && i == j) t u)) er
-        (subst (λ j. OnTrue w (Moved Y v m from (single Y j r across) (λ e i. e == j && i == r) t u)) en second)) same
+    image_written n r j w x kd en er ew ek ex ej first second same =
+        image_moved w (ew ∙ ap₂ carries ek (ex ∙ ap (λ y. odd (digit y a)) ej)) (subst (λ y. Moved Y v m from (single Y y a own) (λ e i. e == y && i == a) s t) en first)
+        (subst (λ y. OnTrue w (Moved Y v m from (single Y (suc (3 * m)) y across) (λ e i. e == suc (3 * m) && i == y) t u)) er
+        (subst (λ y. OnTrue w (Moved Y v m from (single Y y r across) (λ e i. e == y && i == r) t u)) en second)) same
 
   -- and every standing box by its column
   pub change_written : {T : Type 0} (v : T → Y.Symbol) (from : ℕ) (s t u w : Meaning T) (n : ℕ) → b < 3 * m → n ≡ 3 * m
@@ -287,3 +287,7 @@ module _ (Y : Symbols) (m b a : ℕ) (d : Y.Symbol) where
       (moved_then Y v m from _ _ _ _ t u w (subst (λ j. Moved Y v m from (single Y j a d) (λ e r. e == j && r == a) t u) en second) third))
       (λ e h r l. single_columns inside e h r)
       (single_touches inside)
+
+-- the partner of a row of the stripe is one
+pub other_inside : (m k a low weight : ℕ) → k < m → a < 2 ^ m → low ≡ partner k false a → weight ≡ 2 ^ k → low + weight < 2 ^ m
+other_inside m k a low weight h l el ew = omega (arith, el, ew, partner_lt m k true a h l)

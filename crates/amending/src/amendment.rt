@@ -1,9 +1,10 @@
 // Amending one symbol of a stripe's file.
-ghost use Rattle.std.specs.Prelude.{◌≡◌, ℕ, ◌+◌, ◌-◌, ◌*◌, ◌^◌, ◌<◌, ◌≤◌, true, [], ◌∷◌, length, MatchResult, OnErr};
+ghost use Rattle.std.specs.Prelude.{◌≡◌, ℕ, ◌+◌, ◌-◌, ◌*◌, ◌^◌, ◌<◌, ◌≤◌, true, [], ◌∷◌, length, slice_set, MatchResult, OnErr};
 ghost use Rattle.amending.specs.Amendments.{Amended, no_row};
 ghost use Rattle.boxes.specs.Out.{many_out};
+ghost use Rattle.code.specs.Blocks.{◌∸◌};
 ghost use Rattle.code.specs.Codes.{full};
-ghost use Rattle.code.specs.Contents.{parts};
+ghost use Rattle.code.specs.Contents.{at, parts};
 ghost use Rattle.refusal.specs.Refusals.{earliest, no_box, refusal, wrong_lengths};
 ghost use Rattle.stripe.specs.Stripes.{StripeFile, has_stripe, no_stripe, stands};
 
@@ -16,6 +17,7 @@ use stripe::{Stripe, on_shelf};
 use stripe_file::read_file;
 
 // Where a file has row a of data box b.
+#[tactic(auto, using(crate::proofs::Amends::cell_inside))]
 fn place_of(size: &Size, b: usize, a: usize) -> usize
     requires first { 1 ≤ b }
     requires last { b ≤ 3 * size.now.m }
@@ -24,6 +26,18 @@ fn place_of(size: &Size, b: usize, a: usize) -> usize
     ensures inside { result < 3 * size.now.m * 2 ^ size.now.m }
 {
     (b - 1) * size.rows() + a
+}
+
+// Puts x into a place of a file, and tells how it differs from what stood there.
+#[tactic(auto, using(crate::proofs::Amends::element))]
+fn replace<F: Sums>(file: &mut [F], place: usize, x: F) -> F
+    requires { place < length file.old }
+    ensures file { file.new ≡ slice_set file.old place x }
+    ensures change { F.value result ≡ ◌∸◌ F.symbols.ring (F.value x) (at F.symbols F.value file.old place) }
+{
+    let change = x.minus(file[place]);
+    file[place] = x;
+    change
 }
 
 // Puts x into row a of data box b, where the buffer holds the stripe's file.
@@ -45,9 +59,8 @@ fn put<F: Sums, S: Shelf<Symbol = F>>(
     ensures lender { S.buffers shelf.new ≡ S.buffers shelf.old }
 {
     let place = place_of(&stripe.cabinet.size, b, a);
-    let change = x.minus(file[place]);
+    let change = replace(file, place, x);
     write_change(shelf, stripe, b - 1, a, change);
-    file[place] = x;
 }
 
 // Amends row a of data box b to x, by small writes to the boxes that stand,

@@ -1,8 +1,9 @@
 // What a change of one symbol of the file changes of the boxes.
-ghost use Rattle.std.specs.Prelude.{◌≡◌, ℕ, suc, ◌+◌, ◌*◌, ◌^◌, ◌<◌, ◌&&◌, ◌==◌, true, if◌then◌else◌};
+ghost use Rattle.std.specs.Prelude.{◌≡◌, ℕ, suc, ◌+◌, ◌*◌, ◌^◌, ◌<◌, ◌&&◌, ◌==◌, true, if◌then◌else◌, IsNone, IsSomeAnd, MatchOption};
 ghost use Rattle.std.specs.Bool.{OnFalse, OnTrue};
 ghost use Rattle.amending.specs.Changes.{Moved, carries as carries_over, in_image, other_row as other_of, single, touches};
 ghost use Rattle.code.specs.Codes.{column, full, image};
+ghost use Rattle.shelf.specs.Meaning.{symbol_at, with_symbol};
 ghost use Rattle.stripe.specs.Stripes.{has_stripe};
 
 use boxes::{Cabinet, kind_at};
@@ -10,6 +11,19 @@ use code::Kind;
 use field::Sums;
 use shelf::{Shelf, shelves_stand};
 use stripe::Stripe;
+
+// Adds d to the symbol in row a of box b, and tells what it is then. Absent,
+// with nothing changed, where there is none.
+fn add_to<F: Sums, S: Shelf<Symbol = F>>(shelf: &mut S, b: usize, a: usize, d: F) -> Option<F>
+    ensures sum { MatchOption (symbol_at (S.meaning shelf.old) b a) (IsNone result) (λ x. IsSomeAnd result (λ y. F.value y ≡ F.symbols.ring.plus (F.value x) (F.value d))) }
+    ensures after { MatchOption result (S.meaning shelf.new ≡ S.meaning shelf.old) (λ y. S.meaning shelf.new ≡ with_symbol (S.meaning shelf.old) b a y) }
+    ensures lender { S.buffers shelf.new ≡ S.buffers shelf.old }
+{
+    let x = shelf.fetch(b, a)?;
+    let y = x.sum(d);
+    shelf.store(b, a, y);
+    Some(y)
+}
 
 // Adds d to the symbol in a row of the stripe, in the box in place b, if that stands.
 fn add_at<F: Sums, S: Shelf<Symbol = F>>(
@@ -26,10 +40,7 @@ fn add_at<F: Sums, S: Shelf<Symbol = F>>(
     ensures lender { S.buffers shelf.new ≡ S.buffers shelf.old }
 {
     shelves_stand::<S>();
-    let row = stripe.from + a;
-    if let Some(x) = shelf.fetch(b + 1, row) {
-        shelf.store(b + 1, row, x.sum(d));
-    }
+    add_to(shelf, b + 1, stripe.from + a, d);
 }
 
 // The same where it is wanted.
@@ -65,6 +76,7 @@ fn carries(kind: Kind, upper: bool) -> bool
 }
 
 // The partner of a row in the direction of the data box in place b.
+#[tactic(auto, using(crate::proofs::Singles::other_inside))]
 fn other_row<F: Sums>(cabinet: &Cabinet<F>, b: usize, a: usize) -> usize
     requires { a < 2 ^ cabinet.now.size.m }
     ensures row { result ≡ other_of (full F.symbols cabinet.now.size.m) b a }

@@ -9,6 +9,6 @@ returns-clause-amended g c =
     let some = c.args.stripe.now.cabinet.size.some in
     let place = c.place_of-place.ensures.place in
     let inside : c.place_of-place.result < length c.args.file.now = omega (arith, c.place_of-place.ensures.inside, c.requires.whole) in
-    amended Y v _ _ _ _ _ some c.requires.row place c.args.file.now inside c.args.x _ _ _
-    (change_is Y v _ c.args.stripe.now.from _ _ _ some c.requires.row place c.args.file.now inside c.args.x _ _ c.index-file-place.is c.minus-change.ensures)
+    amended Y v _ _ _ _ _ some c.requires.row place c.args.file.now inside c.args.x _ _ _ _ c.replace-change.ensures.file
+    (change_is Y v _ c.args.stripe.now.from _ _ _ some c.requires.row place c.args.file.now inside c.args.x _ c.replace-change.ensures.change)
     c.requires.file c.write_change.ensures.moved
