@@ -8,7 +8,7 @@ use Rattle.code.specs.Codes.{Alike, Code, Column, File, Proper, column, full}
 use Rattle.code.specs.Standing.{Counts, FitsThem}
 use Rattle.code.proofs.Stands.{laws}
 use Rattle.code.proofs.Theory.{recovered_given, proper}
-use Rattle.decoding.specs.Missing.{stands}
+use Rattle.missing.specs.Missing.{stands}
 use Rattle.prime.specs.Five.{above_one, five_symbols}
 use Rattle.prime.specs.Primes.{prime_5}
 use Rattle.cases.specs.Worked.{boxes, five, small, Decodes, Gives}

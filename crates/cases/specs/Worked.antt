@@ -7,7 +7,7 @@ use Rattle.field.specs.Numbers.{residue}
 use Rattle.field.specs.Symbols.{Symbols}
 use Rattle.code.specs.Codes.{full, column, parity1, parity2, half_for, helper, Given}
 use Rattle.code.specs.Standing.{FileOf}
-use Rattle.decoding.specs.Missing.{stands}
+use Rattle.missing.specs.Missing.{stands}
 use Rattle.prime.specs.Five.{five_symbols}
 use Rattle.prime.specs.Words.{word_symbols}
 use Rattle.byte_field.specs.Bytes.{byte_symbols}
