@@ -17,7 +17,7 @@ use Rattle.shelf.proofs.Places.{in_box-with_other, in_box-with_same, length-with
 use Rattle.shelf_rows.specs.Rows.{rows_at}
 use Rattle.stripe.specs.Stripes.{OnlyStripe, has_stripe, held, stands}
 use Rattle.stripe.proofs.Held.{held_number, held_same}
-use Rattle.renewing.specs.Renewals.{HalvesOf, OthersHold, PutIn, Renewed, others_stand}
+use Rattle.renewing.specs.Renewals.{HalvesOf, OthersHold, NewBox, Renewed, others_stand}
 
 -- the halves leave room for a column in a buffer for a file
 pub room : (m : ℕ) → 1 ≤ m → (3 * m + 1) * 2 ^ (m - 1) + 2 ^ m ≤ 3 * m * 2 ^ m
@@ -120,7 +120,7 @@ module _ (Y : Symbols) {T : Type 0} (v : T → Y.Symbol) where
         file = λ f hold. r.file f λ b l n a w. ap (λ C. C a) (held_same Y v m from t s b (other_column lost s t z put (suc b) (λ q. n (omega arith)))) ∙ hold b l n a w;
       }
 
-      pub put_in : has_stripe m from s ≡ true → lost ≤ 3 * m → is_standing s lost ≡ false → v z ≡ Y.ring.zero → OnlyStripe m from t u → PutIn Y v m from (lost - 1) s u
+      pub put_in : has_stripe m from s ≡ true → lost ≤ 3 * m → is_standing s lost ≡ false → v z ≡ Y.ring.zero → OnlyStripe m from t u → NewBox Y v m from (lost - 1) s u
       put_in has below out none only =
           let e : suc (lost - 1) ≡ lost = omega arith in
           record {

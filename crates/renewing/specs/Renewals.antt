@@ -36,8 +36,8 @@ module _ (Y : Symbols) {T : Type 0} (value : T → Y.Symbol) (m from : ℕ) wher
     -- so where the other boxes hold a file's columns, it holds its own of that file
     pub file : (f : File (full Y m)) → OthersHold x old f → Alike (full Y m) (held Y value m from new x) (f x)
 
-  -- box x has come, and holds zero in every row outside the stripe; as many boxes and rows as before
-  pub record PutIn (x : ℕ) (old new : Meaning T) : Type 0 where
+  -- box x stands and holds zero in every row outside the stripe, and there are as many boxes and rows as before
+  pub record NewBox (x : ℕ) (old new : Meaning T) : Type 0 where
     pub boxes : box_count new ≡ box_count old
     pub rows : new.rows ≡ old.rows
     pub here : is_standing new (suc x) ≡ true

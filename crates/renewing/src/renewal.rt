@@ -5,7 +5,7 @@ ghost use Rattle.code.specs.Codes.{Given, full};
 ghost use Rattle.code.specs.Contents.{at, parts};
 ghost use Rattle.refusal.specs.Refusals.{earliest, no_box, refusal, wrong_lengths};
 ghost use Rattle.renewing.specs.Exchanges.{Exchanged};
-ghost use Rattle.renewing.specs.Renewals.{PutIn, Renewed, not_renewable, others_stand};
+ghost use Rattle.renewing.specs.Renewals.{NewBox, Renewed, not_renewable, others_stand};
 ghost use Rattle.shelf.specs.Meaning.{column, has_row, is_standing, symbol_at, with_symbol};
 ghost use Rattle.shelf_rows.specs.Rows.{has_rows, rows_at, with_rows};
 ghost use Rattle.stripe.specs.Reasons.{box_out, box_stands};
@@ -113,7 +113,7 @@ fn renew_absent<F: Quotients, S: Shelf<Symbol = F>>(
     requires data { lost ≤ 3 * stripe.now.cabinet.size.m }
     ensures count { result ≡ (3 * stripe.now.cabinet.size.m + 1) * 2 ^ (stripe.now.cabinet.size.m - 1) }
     ensures renewed { let m = stripe.now.cabinet.size.m in Renewed F.symbols F.value m stripe.now.from (lost - 1) (parts F.symbols F.value (2 ^ (m - 1)) work.new) (S.meaning shelf.old) (S.meaning shelf.new) }
-    ensures put_in { PutIn F.symbols F.value stripe.now.cabinet.size.m stripe.now.from (lost - 1) (S.meaning shelf.old) (S.meaning shelf.new) }
+    ensures put_in { NewBox F.symbols F.value stripe.now.cabinet.size.m stripe.now.from (lost - 1) (S.meaning shelf.old) (S.meaning shelf.new) }
     ensures rest { let m = stripe.now.cabinet.size.m in let n = (3 * m + 1) * 2 ^ (m - 1) in drop n work.new ≡ drop n work.old }
     ensures lender { S.buffers shelf.new ≡ S.buffers shelf.old }
 {
@@ -161,7 +161,7 @@ pub fn renew_out<F: Quotients, S: Shelf<Symbol = F>>(
     ensures answer { let m = stripe.now.cabinet.size.m in let s = S.meaning shelf.old in refusal result ≡ earliest (no_stripe m stripe.now.from s ∷ wrong_lengths ((length work.old, 3 * m * 2 ^ m) ∷ []) ∷ no_box (3 * m + 2) lost ∷ box_stands s lost ∷ many_out (3 * m + 2) (stands s) ∷ not_renewable (3 * m) lost (stands s) ∷ []) }
     ensures count { let m = stripe.now.cabinet.size.m in IfOk result (λ n. n ≡ (3 * m + 1) * 2 ^ (m - 1)) }
     ensures renewed { let m = stripe.now.cabinet.size.m in MatchResult result (λ _. Renewed F.symbols F.value m stripe.now.from (lost - 1) (parts F.symbols F.value (2 ^ (m - 1)) work.new) (S.meaning shelf.old) (S.meaning shelf.new)) (λ _. S.meaning shelf.new ≡ S.meaning shelf.old) }
-    ensures put_in { let m = stripe.now.cabinet.size.m in IfOk result (λ _. PutIn F.symbols F.value m stripe.now.from (lost - 1) (S.meaning shelf.old) (S.meaning shelf.new)) }
+    ensures put_in { let m = stripe.now.cabinet.size.m in IfOk result (λ _. NewBox F.symbols F.value m stripe.now.from (lost - 1) (S.meaning shelf.old) (S.meaning shelf.new)) }
     ensures rest { let m = stripe.now.cabinet.size.m in let n = (3 * m + 1) * 2 ^ (m - 1) in drop n work.new ≡ drop n work.old }
     ensures declined { OnErr result (work.new ≡ work.old) }
     ensures lender { S.buffers shelf.new ≡ S.buffers shelf.old }
