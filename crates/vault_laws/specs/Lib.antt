@@ -1,0 +1,3 @@
+pub mod Agreement
+pub mod Laws
+pub mod Runs

@@ -1,0 +1,16 @@
+// What holds of vaults after any calls.
+#![tactic(auto)]
+
+ghost use Rattle.std.specs.Prelude.{List, None, Option, ℕ};
+ghost use Rattle.ledger.specs.declared.calls.Call.{Call};
+ghost use Rattle.shelf.specs.Meaning.{Meaning};
+ghost use Rattle.vault_calls.specs.Calls.{Reply};
+ghost use Rattle.vault_laws.specs.Laws.{VaultLaw};
+ghost use Rattle.vault_laws.specs.Runs.{Run};
+
+use field::Quotients;
+
+// The law of vaults, for any calls made one by one from a vault's making on.
+pub fn vaults_stand<F: Quotients>()
+    ensures { (s s' : Meaning F) (calls : List (Call F (List F))) (replies : List (Reply F)) (size' : Option ℕ) → Run F.symbols F.value calls replies None s size' s' → VaultLaw F.symbols F.value s calls replies size' s' }
+{}
