@@ -1,5 +1,7 @@
+pub mod AnyBoxes
 pub mod FileReads
 pub mod Files
 pub mod Followed
 pub mod Going
+pub mod Renewals
 pub mod Verdicts
