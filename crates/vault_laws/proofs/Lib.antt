@@ -3,5 +3,6 @@ pub mod FileReads
 pub mod Files
 pub mod Followed
 pub mod Going
+pub mod Law
 pub mod Renewals
 pub mod Verdicts
