@@ -1,22 +1,21 @@
 -- Vaults that hold the same in all boxes but two hold the same. Assumes nothing.
-use Rattle.std.proofs.Common.{◌≡◌, ◌≢◌, ℕ, zero, suc, ◌+◌, ◌*◌, ◌<◌, ◌≤◌, inl, inr, Bool, true, false, not, cond, nat_lt, ◌&&◌, List, map, Option, Some, None, unwrap_or, refl, sym, ap, ◌∙◌, subst, arith}
+use Rattle.std.proofs.Common.{◌≡◌, ◌≢◌, ℕ, zero, suc, ◌+◌, ◌*◌, ◌<◌, ◌≤◌, inl, inr, Bool, true, false, not, cond, nat_lt, List, Option, Some, None, unwrap_or, refl, sym, ap, ◌∙◌, subst, arith}
 use Rattle.std.proofs.lemmas.Bool.{cases_eq, true≢false}
 use Rattle.std.proofs.lemmas.Bool.Decides.{nat_tests}
 use Rattle.std.proofs.lemmas.List.{map-id}
 use Rattle.field.specs.Symbols.{Symbols}
 use Rattle.code.specs.Codes.{Alike, column, full}
-use Rattle.code.specs.Laws.{CabinetsStand, Laws, Same}
+use Rattle.code.specs.Laws.{CabinetsStand, Same}
 use Rattle.code.specs.Standing.{standing}
-use Rattle.shelf.specs.Meaning.{Meaning, is_box}
+use Rattle.shelf.specs.Meaning.{Meaning}
 use Rattle.stripe.specs.Stripes.{stands}
 use Rattle.ledger.specs.Calls.{out_count, size_of}
-use Rattle.ledger.specs.Laws.{IsSetUp}
 use Rattle.ledger.specs.Ledgers.{Ledger, contents}
 use Rattle.ledger.specs.declared.calls.Call.{Call}
 use Rattle.ledger.proofs.Counts.{all_boxes}
 use Rattle.vault_calls.specs.Calls.{Reply}
 use Rattle.vault_laws.specs.Agreement.{Agrees}
-use Rattle.vault_laws.specs.Laws.{AgreeBut, AgreeIn, AgreeInAll, AnyBoxes}
+use Rattle.vault_laws.specs.Laws.{AgreeBut, AgreeIn, AnyBoxes}
 use Rattle.vault_laws.specs.Runs.{Run}
 use Rattle.vault_laws.proofs.FileReads.{agrees, file_read, ledger}
 use Rattle.vault_laws.proofs.Files.{is_set_up, same_list}

@@ -1,10 +1,10 @@
 -- A vault goes as its ledger, over any calls. Assumes nothing.
-use Rattle.std.proofs.Common.{◌≡◌, ℕ, List, [], ◌∷◌, map, Option, Some, None, refl, sym, ap, ap₂, ◌∙◌, subst}
+use Rattle.std.proofs.Common.{◌≡◌, ℕ, List, [], ◌∷◌, map, Option, None, refl, sym, ap, ap₂, subst}
 use Rattle.std.specs.List.{zip}
 use Rattle.std.proofs.lemmas.Option.{none-some}
 use Rattle.field.specs.Symbols.{Symbols}
 use Rattle.shelf.specs.Meaning.{Meaning, box_count}
-use Rattle.ledger.specs.Histories.{Entry, history}
+use Rattle.ledger.specs.Histories.{history}
 use Rattle.ledger.specs.Ledgers.{Ledger, final, fresh, step}
 use Rattle.ledger.specs.Ledgers.{replies as ledger_replies}
 use Rattle.ledger.specs.declared.calls.Call.{Call}

@@ -1,6 +1,5 @@
 -- Every accepted renewal took halves, none to spare. Assumes nothing.
-use Rattle.std.proofs.Common.{◌≡◌, ℕ, ◌+◌, ◌-◌, ◌*◌, ◌^◌, ◌<◌, ◌≤◌, List, [], ◌∷◌, ◌++◌, map, Option, Some, None, Ok, refl, sym, ap, ap₂, ◌∙◌, subst, arith}
-use Rattle.std.specs.List.{zip}
+use Rattle.std.proofs.Common.{◌≡◌, ℕ, ◌+◌, ◌-◌, ◌*◌, ◌^◌, ◌≤◌, List, [], ◌∷◌, ◌++◌, map, Option, Some, None, Ok, refl, sym, ap, ap₂, ◌∙◌, subst, arith}
 use Rattle.field.specs.Symbols.{Symbols}
 use Rattle.code.specs.Laws.{CabinetsStand}
 use Rattle.refusal.specs.declared.Refusal.TheVariants.{NotSetUp, NoBox, NotRenewable}
@@ -15,9 +14,9 @@ use Rattle.ledger.specs.declared.calls.Call.{Call}
 use Rattle.ledger.specs.declared.calls.Call.TheVariants.{Renew}
 use Rattle.ledger.proofs.Accepted.{some_size}
 use Rattle.ledger.proofs.Runs.{stands}
-use Rattle.ledger.proofs.Steps.{accepted, answered, clear, passed}
+use Rattle.ledger.proofs.Steps.{accepted, clear, passed}
 use Rattle.vault_calls.specs.Calls.{Reply as VaultReply}
-use Rattle.vault_laws.specs.Agreement.{told_call, told_reply}
+use Rattle.vault_laws.specs.Agreement.{told_call}
 use Rattle.vault_laws.specs.Laws.{RenewedFromHalves, TookHalves}
 use Rattle.vault_laws.specs.Runs.{Run}
 use Rattle.vault_laws.proofs.Followed.{StepGoes, past_is}
