@@ -1,3 +1,9 @@
+pub mod Agreeing
+pub mod Buffers
+pub mod Counts
 pub mod Files
 pub mod Going
+pub mod Looks
 pub mod Verdicts
+pub mod Writes
+pub mod Zeros
