@@ -7,6 +7,7 @@ pub mod Going
 pub mod Looks
 pub mod Rebuilds
 pub mod Renews
+pub mod Step
 pub mod Verdicts
 pub mod Writes
 pub mod Zeros
