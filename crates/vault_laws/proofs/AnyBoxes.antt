@@ -19,7 +19,6 @@ use Rattle.vault_laws.specs.Laws.{AgreeBut, AgreeIn, AnyBoxes}
 use Rattle.vault_laws.specs.Runs.{Run}
 use Rattle.vault_laws.proofs.FileReads.{agrees, file_read, ledger}
 use Rattle.vault_laws.proofs.Files.{is_set_up, same_list}
-use Rattle.vault_laws.proofs.Followed.{StepGoes}
 
 -- where all boxes but x and y stand, at most two are out
 module _ (s : ℕ → Bool) (x y : ℕ) where
@@ -76,19 +75,19 @@ module _ (Y : Symbols) {T : Type 0} (value : T → Y.Symbol) where
     pub same_boxes : (b : ℕ) → b < 3 * m + 2 → stands s b ≡ true → stands t b ≡ true → AgreeIn Y value m s t b
     same_boxes b inside es et a row = first.holds m refl b inside es a row ∙ same.1 b inside a row ∙ sym (second.holds m refl b inside et a row)
 
-  module _ (step_goes : StepGoes Y value) (cabinets : CabinetsStand Y) where
+  module _ (cabinets : CabinetsStand Y) where
     pub any_boxes : (s : Meaning T) (calls : List (Call T (List T))) (replies : List (Reply T)) (size' : Option ℕ) (s' : Meaning T)
         → Run Y value calls replies None s size' s' → AnyBoxes Y value s calls replies size' s'
     any_boxes s calls replies size' s' run t others answers t' m e run' x y hx hy apart but =
         let ran = subst (λ o. Run Y value calls replies None s o s') e run in
-        let k : Ledger Y = ledger Y value step_goes s calls replies in
-        let l : Ledger Y = ledger Y value step_goes t others answers in
-        let first = agrees Y value step_goes s calls replies m s' ran in
-        let second = agrees Y value step_goes t others answers m t' run' in
+        let k : Ledger Y = ledger Y value s calls replies in
+        let l : Ledger Y = ledger Y value t others answers in
+        let first = agrees Y value s calls replies m s' ran in
+        let second = agrees Y value t others answers m t' run' in
         record {
           read = λ r q reads readq.
-              let here = file_read Y value step_goes s calls replies m s' ran (few_out k m s' first x y but.first) r reads in
-              let there = file_read Y value step_goes t others answers m t' run' (few_out l m t' second x y but.second) q readq in
+              let here = file_read Y value s calls replies m s' ran (few_out k m s' first x y but.first) r reads in
+              let there = file_read Y value t others answers m t' run' (few_out l m t' second x y but.second) q readq in
               (here.0, there.0, here.1 ∙ same_file cabinets k l m s' t' first second x y hx hy apart but ∙ sym there.1);
           boxes = same_boxes cabinets k l m s' t' first second x y hx hy apart but;
         }

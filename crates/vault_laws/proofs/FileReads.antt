@@ -22,10 +22,11 @@ use Rattle.vault_laws.specs.Agreement.{Agrees, told_call, told_reply}
 use Rattle.vault_laws.specs.Laws.{NewestWins, ReadOf}
 use Rattle.vault_laws.specs.Runs.{Run}
 use Rattle.vault_laws.proofs.Files.{is_set_up, same_list}
-use Rattle.vault_laws.proofs.Followed.{StepGoes, as_ledger, past_is}
+use Rattle.vault_laws.proofs.Followed.{as_ledger, past_is}
+use Rattle.vault_laws.proofs.Step.{step_goes}
 use Rattle.vault_laws.proofs.Verdicts.{same_state}
 
-module _ (Y : Symbols) {T : Type 0} (value : T → Y.Symbol) (step_goes : StepGoes Y value) where
+module _ (Y : Symbols) {T : Type 0} (value : T → Y.Symbol) where
   module _ (s : Meaning T) (calls : List (Call T (List T))) (replies : List (Reply T)) where
     abbrev told : List (LedgerCall Y)
     told = map (told_call Y value) calls
@@ -36,14 +37,14 @@ module _ (Y : Symbols) {T : Type 0} (value : T → Y.Symbol) (step_goes : StepGo
     -- of a vault that has size m in the end
     module _ (m : ℕ) (s' : Meaning T) (run : Run Y value calls replies None s (Some m) s') where
       pub agrees : Agrees Y value ledger (Some m) s'
-      agrees = (as_ledger Y value step_goes s calls replies (Some m) s' run).agrees
+      agrees = (as_ledger Y value s calls replies (Some m) s' run).agrees
 
       remembers : Remembers Y (box_count s) s.rows told
       remembers = (stands Y).each_history (box_count s) s.rows told
 
       is_read : out_count ledger.state ≤ 2 → (r : Reply T) → ReadOf Y value m s' r → IsRead Y (box_count s) s.rows told m (told_reply Y value r)
       is_read few r read =
-          let goes = step_goes ledger (Some m) s' (Read read.into) r read.size' read.s' agrees read.does in
+          let goes = step_goes Y value ledger (Some m) s' (Read read.into) r read.size' read.s' agrees read.does in
           subst (IsRead Y (box_count s) s.rows told m) (sym goes.0)
           (remembers.read m (sym agrees.sized) few (map value read.into) (length-map read.into value ∙ read.long))
 
@@ -62,7 +63,7 @@ module _ (Y : Symbols) {T : Type 0} (value : T → Y.Symbol) (step_goes : StepGo
       newest few r read =
           let is = is_read (subst (λ (t : State). out_count t ≤ 2) (same_state Y value ledger m s' agrees) few) r read in (
             is.answer,
-            subst (λ (h : List (Entry Y)). Same (full Y m) (parts Y value (2 ^ m) r.buffer) (told_file Y m h)) (sym (past_is Y value step_goes s calls replies (Some m) s' run))
+            subst (λ (h : List (Entry Y)). Same (full Y m) (parts Y value (2 ^ m) r.buffer) (told_file Y m h)) (sym (past_is Y value s calls replies (Some m) s' run))
                 (λ b inside a row. sym (at_is Y (map value r.buffer) _) ∙ is.newest b inside a row),
           )
 

@@ -19,7 +19,7 @@ use Rattle.vault_calls.specs.Calls.{Reply as VaultReply}
 use Rattle.vault_laws.specs.Agreement.{told_call}
 use Rattle.vault_laws.specs.Laws.{RenewedFromHalves, TookHalves}
 use Rattle.vault_laws.specs.Runs.{Run}
-use Rattle.vault_laws.proofs.Followed.{StepGoes, past_is}
+use Rattle.vault_laws.proofs.Followed.{past_is}
 
 module _ (Y : Symbols) where
   -- an entry of a history is what the ledger came to after the calls before it
@@ -73,12 +73,12 @@ module _ (Y : Symbols) where
           none_to_spare = (cabinets m u.some u.marks).none_to_spare (b - 1) (omega arith);
         }
 
-module _ (Y : Symbols) {T : Type 0} (value : T → Y.Symbol) (step_goes : StepGoes Y value) (cabinets : CabinetsStand Y) where
+module _ (Y : Symbols) {T : Type 0} (value : T → Y.Symbol) (cabinets : CabinetsStand Y) where
   pub renewals : (s : Meaning T) (calls : List (Call T (List T))) (replies : List (VaultReply T)) (size' : Option ℕ) (s' : Meaning T)
       → Run Y value calls replies None s size' s' → RenewedFromHalves Y value s calls replies size' s'
   renewals s calls replies size' s' run before after b work buffer taken e =
       let l : Ledger Y = fresh Y (box_count s) s.rows in
-      let at = entry Y before l (map (told_call Y value) calls) (Renew b work) (record { answer = Ok taken; buffer = buffer }) after (sym (past_is Y value step_goes s calls replies size' s' run) ∙ e) in
+      let at = entry Y before l (map (told_call Y value) calls) (Renew b work) (record { answer = Ok taken; buffer = buffer }) after (sym (past_is Y value s calls replies size' s' run) ∙ e) in
       let now = took Y value cabinets (box_count s) s.rows at.earlier b work taken (sym (ap (λ (r : Reply Y). r.answer) at.came_to)) in
       subst (λ (h : List (Entry Y)). TookHalves Y value h b work buffer taken) (sym at.are)
       (subst (λ (u : List Y.Symbol). TookHalves Y value (history Y l at.earlier) b work u taken) (sym (ap (λ (r : Reply Y). r.buffer) at.came_to)) now)
