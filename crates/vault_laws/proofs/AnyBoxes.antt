@@ -1,60 +1,26 @@
 -- Vaults that hold the same in all boxes but two hold the same. Assumes nothing.
-use Rattle.std.proofs.Common.{◌≡◌, ◌≢◌, ℕ, zero, suc, ◌+◌, ◌*◌, ◌<◌, ◌≤◌, inl, inr, Bool, true, false, not, cond, nat_lt, List, Option, Some, None, unwrap_or, refl, sym, ap, ◌∙◌, subst, arith}
-use Rattle.std.proofs.lemmas.Bool.{cases_eq, true≢false}
-use Rattle.std.proofs.lemmas.Bool.Decides.{nat_tests}
+use Rattle.std.proofs.Common.{◌≡◌, ◌≢◌, ℕ, ◌+◌, ◌*◌, ◌<◌, ◌≤◌, true, List, Option, Some, None, refl, sym, ◌∙◌, subst, arith}
 use Rattle.std.proofs.lemmas.List.{map-id}
 use Rattle.field.specs.Symbols.{Symbols}
 use Rattle.code.specs.Codes.{Alike, column, full}
 use Rattle.code.specs.Laws.{CabinetsStand, Same}
-use Rattle.code.specs.Standing.{standing}
 use Rattle.shelf.specs.Meaning.{Meaning}
 use Rattle.stripe.specs.Stripes.{stands}
-use Rattle.ledger.specs.Calls.{out_count, size_of}
+use Rattle.ledger.specs.Calls.{out_count}
 use Rattle.ledger.specs.Ledgers.{Ledger, contents}
 use Rattle.ledger.specs.declared.calls.Call.{Call}
-use Rattle.ledger.proofs.Counts.{all_boxes}
 use Rattle.vault_calls.specs.Calls.{Reply}
 use Rattle.vault_laws.specs.Agreement.{Agrees}
 use Rattle.vault_laws.specs.Laws.{AgreeBut, AgreeIn, AnyBoxes}
 use Rattle.vault_laws.specs.Runs.{Run}
+use Rattle.vault_laws.proofs.Agreeing.{out_and_standing}
+use Rattle.vault_laws.proofs.Counts.{all_but_two}
 use Rattle.vault_laws.proofs.FileReads.{agrees, file_read, ledger}
 use Rattle.vault_laws.proofs.Files.{is_set_up, same_list}
 
--- where all boxes but x and y stand, at most two are out
-module _ (s : ℕ → Bool) (x y : ℕ) where
-  abbrev one : ℕ → ℕ → ℕ
-  one x n = cond (nat_lt x n) 1 0
-
-  abbrev Counted : ℕ → Type 0
-  Counted n = n ≤ standing s n + one x n + one y n
-
-  more : (n : ℕ) → Counted n → (n ≢ x → n ≢ y → s n ≡ true) → (t : Bool) → s n ≡ t → Counted (suc n)
-  more n k h true e = grind (arith, nat_tests)
-  more n k h false e =
-      elim (cases_eq n x) [
-        | inl is ↦ grind (arith, nat_tests)
-        | inr nx ↦ elim (cases_eq n y) [ inl is ↦ grind (arith, nat_tests) | inr ny ↦ absurd (true≢false (sym (h nx ny) ∙ e)) ]
-      ]
-
-  counted : (n : ℕ) → ((b : ℕ) → b < n → b ≢ x → b ≢ y → s b ≡ true) → Counted n
-  counted zero h = omega arith
-  counted (suc n) h = more n (counted n (λ b l. h b (omega arith))) (h n (omega arith)) (s n) refl
-
-  pub two_left : (n : ℕ) → ((b : ℕ) → b < n → b ≢ x → b ≢ y → s b ≡ true) → n ≤ standing s n + 2
-  two_left n h = let k = counted n h in grind (arith, nat_tests)
-
 module _ (Y : Symbols) {T : Type 0} (value : T → Y.Symbol) where
-  module _ (l : Ledger Y) (m : ℕ) (s : Meaning T) (agrees : Agrees Y value l (Some m) s) where
-    -- a box that stands is not out
-    not_out : (b : ℕ) → stands s b ≡ true → not (l.state.out (suc b)) ≡ true
-    not_out b e = let o = agrees.out m refl (suc b) in grind (arith, nat_tests)
-
-    few_out : (x y : ℕ) → ((b : ℕ) → b < 3 * m + 2 → b ≢ x → b ≢ y → stands s b ≡ true) → out_count l.state ≤ 2
-    few_out x y h =
-        let size : size_of l.state ≡ m = ap (λ o. unwrap_or o 0) (sym agrees.sized) in
-        let n : ℕ = 3 * size_of l.state + 2 in
-        let left = two_left (λ b. not (l.state.out (suc b))) x y n (λ b inside nx ny. not_out b (h b (omega arith) nx ny)) in
-        omega (arith, all_boxes l.state.out n)
+  few_out : (l : Ledger Y) (m : ℕ) (s : Meaning T) → Agrees Y value l (Some m) s → (x y : ℕ) → ((b : ℕ) → b < 3 * m + 2 → b ≢ x → b ≢ y → stands s b ≡ true) → out_count l.state ≤ 2
+  few_out l m s agrees x y h = omega (arith, all_but_two (stands s) x y (3 * m + 2) h, out_and_standing Y value l m s agrees)
 
   module _ (cabinets : CabinetsStand Y) (k l : Ledger Y) (m : ℕ) (s t : Meaning T) (first : Agrees Y value k (Some m) s) (second : Agrees Y value l (Some m) t)
       (x y : ℕ) (hx : x < 3 * m + 2) (hy : y < 3 * m + 2) (apart : x ≢ y) (but : AgreeBut Y value m s t x y) where

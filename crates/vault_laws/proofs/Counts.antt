@@ -1,6 +1,7 @@
 -- How many boxes stand where some are out. Assumes nothing.
-use Rattle.std.proofs.Common.{◌≡◌, ◌≢◌, ℕ, zero, suc, ◌+◌, ◌<◌, ◌≤◌, Bool, true, false, if◌then◌else◌, inl, inr, refl, sym, ap, ap₂, ◌∙◌, arith, tests}
-use Rattle.std.proofs.lemmas.Bool.{cases_order}
+use Rattle.std.proofs.Common.{◌≡◌, ◌≢◌, ℕ, zero, suc, ◌+◌, ◌<◌, ◌≤◌, Bool, true, false, cond, if◌then◌else◌, nat_lt, inl, inr, refl, sym, ap, ap₂, ◌∙◌, arith, tests}
+use Rattle.std.proofs.lemmas.Bool.{cases_eq, cases_order, true≢false}
+use Rattle.std.proofs.lemmas.Bool.Decides.{nat_tests}
 use Rattle.code.specs.Standing.{standing}
 use Rattle.missing.proofs.Counts.{most_below}
 
@@ -41,3 +42,26 @@ module _ (stands : ℕ → Bool) where
             | inr (inl k) ↦ let two = two_fewer n d x k inside e out in absurd (omega arith)
             | inr (inr k) ↦ let two = two_fewer n x d k l out e in absurd (omega arith)
           ]
+
+-- where all boxes but x and y stand, at most two are out
+module _ (s : ℕ → Bool) (x y : ℕ) where
+  abbrev one : ℕ → ℕ → ℕ
+  one x n = cond (nat_lt x n) 1 0
+
+  abbrev Counted : ℕ → Type 0
+  Counted n = n ≤ standing s n + one x n + one y n
+
+  more : (n : ℕ) → Counted n → (n ≢ x → n ≢ y → s n ≡ true) → (t : Bool) → s n ≡ t → Counted (suc n)
+  more n k h true e = grind (arith, nat_tests)
+  more n k h false e =
+      elim (cases_eq n x) [
+        | inl is ↦ grind (arith, nat_tests)
+        | inr nx ↦ elim (cases_eq n y) [ inl is ↦ grind (arith, nat_tests) | inr ny ↦ absurd (true≢false (sym (h nx ny) ∙ e)) ]
+      ]
+
+  counted : (n : ℕ) → ((b : ℕ) → b < n → b ≢ x → b ≢ y → s b ≡ true) → Counted n
+  counted zero h = omega arith
+  counted (suc n) h = more n (counted n (λ b l. h b (omega arith))) (h n (omega arith)) (s n) refl
+
+  pub all_but_two : (n : ℕ) → ((b : ℕ) → b < n → b ≢ x → b ≢ y → s b ≡ true) → n ≤ standing s n + 2
+  all_but_two n h = let k = counted n h in grind (arith, nat_tests)
