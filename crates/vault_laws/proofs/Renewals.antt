@@ -23,24 +23,24 @@ use Rattle.vault_laws.proofs.Followed.{past_is}
 
 module _ (Y : Symbols) where
   -- an entry of a history is what the ledger came to after the calls before it
-  record Then (l : Ledger Y) (before : List (Entry Y)) (call : LedgerCall Y) (r : Reply Y) : Type 0 where
+  record CameTo (l : Ledger Y) (before : List (Entry Y)) (call : LedgerCall Y) (r : Reply Y) : Type 0 where
     earlier : List (LedgerCall Y)
     are : before ≡ history Y l earlier
-    came_to : r ≡ (step Y (final Y l earlier) call).reply
+    is : r ≡ (step Y (final Y l earlier) call).reply
 
   entry : (before : List (Entry Y)) (l : Ledger Y) (calls : List (LedgerCall Y)) (call : LedgerCall Y) (r : Reply Y) (after : List (Entry Y))
-      → history Y l calls ≡ before ++ (call, r) ∷ after → Then l before call r
+      → history Y l calls ≡ before ++ (call, r) ∷ after → CameTo l before call r
   entry [] l [] call r after e = cc
   entry (x ∷ before) l [] call r after e = cc
   entry [] l (first ∷ calls) call r after e =
       let same : (first, (step Y l first).reply) ≡ (call, r) = cc in
-      record { earlier = []; are = refl; came_to = ap (λ (x : Entry Y). x.1) (sym same) ∙ ap (λ c. (step Y l c).reply) (ap (λ (x : Entry Y). x.0) same) }
+      record { earlier = []; are = refl; is = ap (λ (x : Entry Y). x.1) (sym same) ∙ ap (λ c. (step Y l c).reply) (ap (λ (x : Entry Y). x.0) same) }
   entry (x ∷ before) l (first ∷ calls) call r after e =
       let next : Ledger Y = (step Y l first).next in
       let same : (first, (step Y l first).reply) ≡ x = cc in
       let rest : history Y next calls ≡ before ++ (call, r) ∷ after = cc in
       let more = entry before next calls call r after rest in
-      record { earlier = first ∷ more.earlier; are = ap₂ (λ x xs. x ∷ xs) (sym same) more.are; came_to = more.came_to }
+      record { earlier = first ∷ more.earlier; are = ap₂ (λ x xs. x ∷ xs) (sym same) more.are; is = more.is }
 
   module _ {T : Type 0} (value : T → Y.Symbol) (cabinets : CabinetsStand Y) (n k : ℕ) (calls : List (LedgerCall Y)) where
     abbrev l : Ledger Y
@@ -79,6 +79,6 @@ module _ (Y : Symbols) {T : Type 0} (value : T → Y.Symbol) (cabinets : Cabinet
   renewals s calls replies size' s' run before after b work buffer taken e =
       let l : Ledger Y = fresh Y (box_count s) s.rows in
       let at = entry Y before l (map (told_call Y value) calls) (Renew b work) (record { answer = Ok taken; buffer = buffer }) after (sym (past_is Y value s calls replies size' s' run) ∙ e) in
-      let now = took Y value cabinets (box_count s) s.rows at.earlier b work taken (sym (ap (λ (r : Reply Y). r.answer) at.came_to)) in
+      let now = took Y value cabinets (box_count s) s.rows at.earlier b work taken (sym (ap (λ (r : Reply Y). r.answer) at.is)) in
       subst (λ (h : List (Entry Y)). TookHalves Y value h b work buffer taken) (sym at.are)
-      (subst (λ (u : List Y.Symbol). TookHalves Y value (history Y l at.earlier) b work u taken) (sym (ap (λ (r : Reply Y). r.buffer) at.came_to)) now)
+      (subst (λ (u : List Y.Symbol). TookHalves Y value (history Y l at.earlier) b work u taken) (sym (ap (λ (r : Reply Y). r.buffer) at.is)) now)
