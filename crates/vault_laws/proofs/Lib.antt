@@ -1,7 +1,12 @@
 pub mod Agreeing
 pub mod Amends
+pub mod Buffers
 pub mod Counts
 pub mod Files
 pub mod Going
+pub mod Looks
 pub mod Rebuilds
 pub mod Renews
+pub mod Verdicts
+pub mod Writes
+pub mod Zeros
