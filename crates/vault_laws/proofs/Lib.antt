@@ -4,6 +4,7 @@ pub mod Buffers
 pub mod Counts
 pub mod Files
 pub mod Going
+pub mod Halves
 pub mod Looks
 pub mod Rebuilds
 pub mod Renews
