@@ -8,6 +8,7 @@ pub mod Halves
 pub mod Looks
 pub mod Rebuilds
 pub mod Renews
+pub mod Step
 pub mod Verdicts
 pub mod Writes
 pub mod Zeros

@@ -1,11 +1,11 @@
 -- Calls that change nothing: a read, a column, a half for a lost box. Assumes nothing.
-use Rattle.std.proofs.Common.{◌≡◌, ℕ, suc, ◌+◌, ◌-◌, ◌*◌, ◌^◌, ◌<◌, ◌≤◌, true, List, length, Option, Some, refl, sym, ap, ap₂, ◌∙◌, subst, arith, tests}
+use Rattle.std.proofs.Common.{◌≡◌, ℕ, suc, ◌+◌, ◌-◌, ◌*◌, ◌^◌, ◌≤◌, true, List, length, Some, refl, sym, ap, ◌∙◌, subst, arith, tests}
 use Rattle.field.specs.Symbols.{Symbols}
 use Rattle.code.specs.Codes.{Alike, column, full}
 use Rattle.code.specs.Contents.{at}
 use Rattle.refusal.specs.declared.Refusal.TheVariants.{NoBox, Out}
 use Rattle.shelf.specs.Meaning.{Meaning, is_out, is_standing}
-use Rattle.stripe.specs.Stripes.{held, stands}
+use Rattle.stripe.specs.Stripes.{held}
 use Rattle.stripe.proofs.Held.{held_number}
 use Rattle.ledger.specs.Calls.{lent}
 use Rattle.ledger.specs.Ledgers.{Ledger, accept, column_in, contents, half_in}

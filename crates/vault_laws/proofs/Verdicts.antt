@@ -1,5 +1,5 @@
 -- A vault that is as a ledger says declines a call where the ledger does, with the same refusal. Assumes nothing.
-use Rattle.std.proofs.Common.{◌≡◌, ℕ, inl, inr, Bool, List, [], map, Option, Some, None, refl, sym, ap, ◌∙◌, arith}
+use Rattle.std.proofs.Common.{◌≡◌, ℕ, inl, inr, Bool, List, [], Option, Some, None, refl, sym, ap, ◌∙◌, arith}
 use Rattle.std.specs.Option.{is_none}
 use Rattle.std.proofs.Math.Path.{fun_ext}
 use Rattle.std.proofs.lemmas.Bool.{cond-true}
@@ -8,7 +8,6 @@ use Rattle.refusal.specs.Refusals.{earliest}
 use Rattle.refusal.specs.declared.Refusal.TheVariants.{Size, Marks, Shape}
 use Rattle.shelf.specs.Meaning.{Meaning, box_count, is_out}
 use Rattle.ledger.specs.Calls.{State, reasons}
-use Rattle.ledger.specs.Laws.{IsSetUp}
 use Rattle.ledger.specs.Ledgers.{Ledger}
 use Rattle.ledger.specs.declared.calls.Call.{Call}
 use Rattle.ledger.specs.declared.calls.Call.TheVariants.{SetUp}

@@ -1,15 +1,13 @@
 -- Calls that change boxes and leave nothing to work out: a put, a loss, a set up. Assumes nothing.
-use Rattle.std.proofs.Common.{◌≡◌, ◌≢◌, ℕ, zero, suc, ◌+◌, ◌*◌, ◌^◌, ◌<◌, ◌≤◌, Bool, true, false, ◌||◌, ◌==◌, List, [], length, map, is_some, Option, Some, inl, inr, refl, sym, ap, ◌∙◌, subst, true≢false, arith, tests}
+use Rattle.std.proofs.Common.{◌≡◌, ◌≢◌, ℕ, zero, suc, ◌+◌, ◌*◌, ◌^◌, ◌<◌, ◌≤◌, true, false, ◌||◌, ◌==◌, List, length, map, is_some, Option, Some, inl, inr, refl, sym, ap, ◌∙◌, subst, true≢false, arith, tests}
 use Rattle.std.proofs.lemmas.Bool.{cases_eq, cases_lt}
 use Rattle.field.specs.Symbols.{Symbols}
-use Rattle.code.specs.Codes.{Alike, column, full}
 use Rattle.refusal.specs.declared.Refusal.TheVariants.{NoBox}
 use Rattle.shelf.specs.Meaning.{Meaning, box_count, column as box_column, is_out, is_standing, nothing, with_out}
 use Rattle.shelf.proofs.Places.{in_box-with_other, in_box-with_same, length-with_box}
-use Rattle.stripe.specs.Stripes.{HoldsFile, held, stands}
+use Rattle.stripe.specs.Stripes.{HoldsFile, stands}
 use Rattle.stripe.proofs.Held.{held_same}
 use Rattle.ledger.specs.Calls.{lent}
-use Rattle.ledger.specs.Laws.{IsLedger, IsSetUp}
 use Rattle.ledger.specs.Ledgers.{Ledger, accept, contents}
 use Rattle.ledger.specs.declared.calls.Answer.{Answer}
 use Rattle.ledger.specs.declared.calls.Answer.TheVariants.{Done}
