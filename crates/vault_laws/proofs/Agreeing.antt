@@ -3,7 +3,7 @@ use Rattle.std.specs.List.{range_with_len}
 use Rattle.std.proofs.Common.{◌≡◌, ℕ, suc, ◌+◌, ◌*◌, ◌<◌, count_by, not, ◌&&◌, nat_le, unwrap_or, Some, sym, ap, ap₂, ◌∙◌, subst, arith, tests}
 use Rattle.std.proofs.lemmas.Option.{same_Some}
 use Rattle.field.specs.Symbols.{Symbols}
-use Rattle.code.specs.Codes.{File, full}
+use Rattle.code.specs.Codes.{Alike, File, column, full}
 use Rattle.code.specs.Laws.{Same}
 use Rattle.code.specs.Standing.{standing}
 use Rattle.code.proofs.Stands.{same_columns}
@@ -54,8 +54,9 @@ module _ (Y : Symbols) {T : Type 0} (value : T → Y.Symbol) where
     out_and_standing =
         ap₂ ◌+◌ (ap (λ k. count_by l.state.out (range_with_len 1 (boxes_of k))) size_is) (as_many (stands s) (ledger_stands l.state) (3 * m + 2) stand_is) ∙ all_boxes l.state.out (3 * m + 2)
 
-    -- a box's column of a file is the same where the file is
+    -- where files are the same, so are their columns, and boxes that hold one hold the other
+    pub columns_same : (f g : File (full Y m)) → Same (full Y m) f g → (b : ℕ) → b < 3 * m + 2 → Alike (full Y m) (column (full Y m) f b) (column (full Y m) g b)
+    columns_same = let u = is_set_up Y value l m s agrees in same_columns (full Y m) (proper Y m u.some u.marks)
+
     pub holds_same : (t : Meaning T) (f g : File (full Y m)) → Same (full Y m) f g → HoldsFile Y value m 0 t f → HoldsFile Y value m 0 t g
-    holds_same t f g same holds b h there a w =
-        let u = is_set_up Y value l m s agrees in
-        holds b h there a w ∙ same_columns (full Y m) (proper Y m u.some u.marks) f g same b h a w
+    holds_same t f g same holds b h there a w = holds b h there a w ∙ columns_same f g same b h a w

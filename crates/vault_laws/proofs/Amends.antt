@@ -1,6 +1,6 @@
 -- An accepted amendment goes as the ledger's. Assumes nothing.
 use Rattle.std.proofs.Common.{◌≡◌, ◌≢◌, ℕ, ◌+◌, ◌-◌, ◌*◌, ◌^◌, ◌<◌, ◌⊎◌, ⊎_elim, ◌&&◌, ◌==◌, if◌then◌else◌, List, length, get_or, slice_set, Some, refl, sym, ap, ap₂, ◌∙◌, arith, tests, get_or-set_other, get_or-set_same}
-use Rattle.std.proofs.lemmas.List.{length-map, length-set}
+use Rattle.std.proofs.lemmas.List.{length-set}
 use Rattle.std.proofs.lemmas.Nat.{mul-add-lt, same_from_place}
 use Rattle.field.specs.Symbols.{Symbols}
 use Rattle.code.specs.Codes.{full}
@@ -15,12 +15,13 @@ use Rattle.ledger.specs.Ledgers.{Ledger, accept, contents}
 use Rattle.ledger.specs.declared.calls.Answer.{Answer}
 use Rattle.ledger.specs.declared.calls.Answer.TheVariants.{Done, Count}
 use Rattle.ledger.specs.declared.calls.Call.TheVariants.{Amend}
-use Rattle.ledger.proofs.Accepted.{lengths, still}
+use Rattle.ledger.proofs.Accepted.{still}
 use Rattle.ledger.proofs.Lists.{at_is}
 use Rattle.ledger.proofs.Steps.{Clear}
 use Rattle.vault_calls.specs.Calls.{Accepts}
 use Rattle.vault_laws.specs.Agreement.{Agrees, told_call}
 use Rattle.vault_laws.proofs.Agreeing.{agreeing, holds_same, out_same, size_is}
+use Rattle.vault_laws.proofs.Buffers.{long_as}
 use Rattle.vault_laws.proofs.Files.{is_set_up, same_list, the_file}
 use Rattle.vault_laws.proofs.Going.{Goes}
 
@@ -56,7 +57,7 @@ module _ (Y : Symbols) {T : Type 0} (value : T → Y.Symbol) where
     whole_set = length-set l.file place (value y) ∙ (is_set_up Y value l m s agrees).whole
 
     whole : length buffer ≡ 3 * m * 2 ^ m
-    whole = long ∙ sym (length-map work value) ∙ sym (lengths Y l agrees.lawful (told_call Y value (Amend b a y work)) clear) ∙ whole_set
+    whole = long_as Y value l agrees.lawful (Amend b a y work) buffer clear long ∙ whole_set
 
     was : Same (full Y m) did.file (contents Y m l.file)
     was = the_file Y value l m s agrees did.file did.was

@@ -7,6 +7,7 @@ pub mod FileReads
 pub mod Files
 pub mod Followed
 pub mod Going
+pub mod Halves
 pub mod Law
 pub mod Looks
 pub mod Rebuilds

@@ -1,11 +1,8 @@
 -- Calls that change nothing: a read, a column, a half for a lost box. Assumes nothing.
-use Rattle.std.proofs.Common.{◌≡◌, ℕ, suc, ◌+◌, ◌-◌, ◌*◌, ◌^◌, ◌<◌, ◌≤◌, true, List, length, Some, refl, sym, ap, ap₂, ◌∙◌, subst, arith, tests}
+use Rattle.std.proofs.Common.{◌≡◌, ℕ, suc, ◌+◌, ◌-◌, ◌*◌, ◌^◌, ◌≤◌, true, List, length, Some, refl, sym, ap, ◌∙◌, subst, arith, tests}
 use Rattle.field.specs.Symbols.{Symbols}
-use Rattle.code.specs.Blocks.{half}
-use Rattle.code.specs.Codes.{Alike, column, full, half_for, kind, shift}
+use Rattle.code.specs.Codes.{Alike, column, full}
 use Rattle.code.specs.Contents.{at}
-use Rattle.code.specs.Rows.{lower}
-use Rattle.code.proofs.Pairing.{lower_below, upper_below}
 use Rattle.refusal.specs.declared.Refusal.TheVariants.{NoBox, Out}
 use Rattle.shelf.specs.Meaning.{Meaning, is_out, is_standing}
 use Rattle.stripe.specs.Stripes.{held}
@@ -23,6 +20,7 @@ use Rattle.vault_laws.proofs.Agreeing.{box_count_is, size_is}
 use Rattle.vault_laws.proofs.Buffers.{long_as}
 use Rattle.vault_laws.proofs.Files.{is_set_up, the_list}
 use Rattle.vault_laws.proofs.Going.{Goes}
+use Rattle.vault_laws.proofs.Halves.{half_same}
 
 module _ (Y : Symbols) {T : Type 0} (value : T → Y.Symbol) (l : Ledger Y) (m : ℕ) (s s' : Meaning T) (agrees : Agrees Y value l (Some m) s) where
   -- nothing has changed
@@ -63,13 +61,6 @@ module _ (Y : Symbols) {T : Type 0} (value : T → Y.Symbol) (l : Ledger Y) (m :
       }
   column_goes b into x buffer clear long done = absurd done
 
-  -- columns that are alike have the same halves
-  half_same : (x : ℕ) (C E : ℕ → Y.Symbol) → Alike (full Y m) C E → (j : ℕ) → j < 2 ^ (m - 1) → half_for (full Y m) x C j ≡ half_for (full Y m) x E j
-  half_same x C E same j k =
-      let v = shift (full Y m) x in
-      let some = (is_set_up Y value l m s agrees).some in
-      ap₂ (half Y.ring (kind (full Y m) x)) (same (lower v j) (lower_below m v j (omega arith) k)) (same (lower v j + 2 ^ v) (upper_below m v j (omega arith) k))
-
   pub message_goes : (helper lost : ℕ) (into : List T) (x : Answer) (buffer : List T) → Clear Y l (told_call Y value (Message helper lost into)) → length buffer ≡ length (lent {T = T} (Message helper lost into))
       → Accepts Y value m s s' (Message helper lost into) x buffer → Goes Y value (accept Y l (told_call Y value (Message helper lost into))) x buffer (Some m) s'
   message_goes helper lost into Done buffer clear long done =
@@ -79,7 +70,7 @@ module _ (Y : Symbols) {T : Type 0} (value : T → Y.Symbol) (l : Ledger Y) (m :
         answer = refl;
         buffer_is = ap (λ k. half_in Y k l.file (lost - 1) (helper - 1)) size
             ∙ sym (listed_held Y value (2 ^ (m - 1)) _ buffer (long_as Y value l agrees.lawful (Message helper lost into) buffer clear long ∙ length-listed _ _ ∙ ap (λ k. 2 ^ (k - 1)) size)
-            (λ j k. done.half j k ∙ half_same (lost - 1) _ _ (its_column helper (grind arith) (grind arith) (clear Out)) j k));
+            (λ j k. done.half j k ∙ half_same (full Y m) (is_set_up Y value l m s agrees).some (lost - 1) _ _ (its_column helper (grind arith) (grind arith) (clear Out)) j k));
         agrees = stays done.stays;
       }
   message_goes helper lost into x buffer clear long done = absurd done

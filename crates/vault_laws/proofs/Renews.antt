@@ -4,13 +4,9 @@ use Rattle.std.proofs.lemmas.Bool.{cases_eq}
 use Rattle.std.proofs.lemmas.List.{drop-map, get_or-take, length-map, length-take-le, map-append, take-append-drop, take-map}
 use Rattle.std.proofs.lemmas.Nat.{mul-add-lt}
 use Rattle.field.specs.Symbols.{Symbols}
-use Rattle.code.specs.Blocks.{half}
-use Rattle.code.specs.Codes.{Alike, Code, File, column, full, half_for, helper, kind, shift}
+use Rattle.code.specs.Codes.{Alike, File, column, full, half_for, helper}
 use Rattle.code.specs.Contents.{parts}
-use Rattle.code.specs.Rows.{lower}
 use Rattle.code.proofs.Columns.{column_data}
-use Rattle.code.proofs.Pairing.{lower_below, upper_below}
-use Rattle.code.proofs.Theory.{shift_below}
 use Rattle.refusal.specs.declared.Refusal.TheVariants.{Length, NoBox, NotRenewable, Standing}
 use Rattle.shelf.specs.Meaning.{Meaning, is_out, is_standing}
 use Rattle.stripe.specs.Stripes.{HoldsFile, held, stands}
@@ -31,13 +27,7 @@ use Rattle.vault_laws.proofs.Agreeing.{agreeing, out_and_standing, out_same, siz
 use Rattle.vault_laws.proofs.Counts.{others_stand}
 use Rattle.vault_laws.proofs.Files.{is_set_up}
 use Rattle.vault_laws.proofs.Going.{Goes}
-
--- columns that are the same have the same halves
-half_same : {A : Type 0} (c : Code A) → 1 ≤ c.size → (x : ℕ) (C E : ℕ → A) → Alike c C E → (j : ℕ) → j < 2 ^ (c.size - 1) → half_for c x C j ≡ half_for c x E j
-half_same c some x C E same j l =
-    let k = shift c x in
-    let inside = shift_below c x some in
-    ap₂ (half c.ring (kind c x)) (same (lower k j) (lower_below c.size k j inside l)) (same (lower k j + 2 ^ k) (upper_below c.size k j inside l))
+use Rattle.vault_laws.proofs.Halves.{half_same}
 
 module _ (Y : Symbols) {T : Type 0} (value : T → Y.Symbol) where
   module _ (l : Ledger Y) (m : ℕ) (s s' : Meaning T) (agrees : Agrees Y value l (Some m) s) (b : ℕ) (work : List T) (taken : ℕ) (buffer : List T)
