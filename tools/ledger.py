@@ -6,7 +6,10 @@ has it: CODE.md (blocks, parities, halves), FIELDS.md (fields, marks), CALLS.md
 and REFUSALS.md (calls, and why they are declined).
 
   python3 tools/ledger.py < script
-  python3 tools/ledger.py SCRIPT..     each transcript behind its script's name
+  python3 tools/ledger.py SCRIPT..
+
+Scripts may be given by the names of their files, a hyphen for the standard
+input; each transcript is then printed behind its script's name.
 """
 import re
 import sys
@@ -318,13 +321,18 @@ def transcript(text):
     return "".join(lines)
 
 
+def read(name):
+    if name == "-":
+        return sys.stdin.buffer.read()
+    with open(name, "rb") as script:
+        return script.read()
+
+
 def main(names):
     if not names:
-        sys.stdout.write(transcript(sys.stdin.buffer.read()))
+        sys.stdout.write(transcript(read("-")))
     for name in names:
-        with open(name, "rb") as script:
-            text = transcript(script.read())
-        sys.stdout.write(f"{name}\n{text}")
+        sys.stdout.write(f"{name}\n{transcript(read(name))}")
 
 
 if __name__ == "__main__":
