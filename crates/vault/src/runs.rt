@@ -1,0 +1,69 @@
+// Scripts that are run on a new vault.
+use crate::calls::{entries, lines};
+use crate::lengths::Lengths;
+use byte_field::Byte;
+use field::Quotients;
+use flat::Flat;
+use four::Four;
+use image::Image;
+use joined::Joined;
+use prime::five::Five;
+use prime::words::Words;
+use script::{FieldName, Line, Script, parse, write_line};
+use shelf::Shelf;
+use std::alloc::{AllocError, Global};
+use vault_runs::run_new;
+
+// How many bytes of an image hold a word.
+const BYTES: usize = 3;
+
+// Runs a script over a shelf.
+fn run<F: Quotients, S: Shelf<Symbol = F> + Drop>(
+    alloc: Global,
+    script: &Script,
+    shelf: S,
+) -> anyhow::Result<String> {
+    let mut entries = entries(alloc, script.m, &script.commands)?;
+    run_new(shelf, &mut entries);
+    Ok(lines(alloc, &script.commands, &entries)?)
+}
+
+// Runs it over a flat shelf.
+fn run_flat<F: Quotients>(alloc: Global, script: &Script) -> anyhow::Result<String> {
+    let lengths = Lengths::new(script.m);
+    let mut buffer = vec![in alloc; F::zero(); lengths.boxes() * lengths.rows]?;
+    run(
+        alloc,
+        script,
+        Flat::new(&mut buffer, lengths.boxes(), lengths.rows),
+    )
+}
+
+// Runs one over words: data boxes on a flat shelf, and parity boxes in an image.
+fn run_joined(alloc: Global, script: &Script) -> anyhow::Result<String> {
+    let lengths = Lengths::new(script.m);
+    let mut symbols = lengths.file::<Words>(alloc)?;
+    let mut bytes = vec![in alloc; 0; BYTES * lengths.parities * lengths.rows]?;
+    let data = Flat::new(&mut symbols, lengths.data_boxes, lengths.rows);
+    let parities = Image::new(&mut bytes, lengths.parities, lengths.rows);
+    run(alloc, script, Joined::new(data, parities))
+}
+
+fn no_script(alloc: Global) -> Result<String, AllocError> {
+    let mut out = String::new(alloc);
+    write_line(&mut out, &Line::NoScript)?;
+    Ok(out)
+}
+
+// The transcript of a script.
+pub(crate) fn transcript(alloc: Global, text: &[u8]) -> anyhow::Result<String> {
+    let Some(script) = parse(alloc, text)? else {
+        return Ok(no_script(alloc)?);
+    };
+    match script.field {
+        FieldName::Five => run_flat::<Five>(alloc, &script),
+        FieldName::Four => run_flat::<Four>(alloc, &script),
+        FieldName::Bytes => run_flat::<Byte>(alloc, &script),
+        FieldName::Words => run_joined(alloc, &script),
+    }
+}
