@@ -1,13 +1,13 @@
 -- What each call of a vault answers, and what it leaves of the vault, its shelf and the buffer, whatever the boxes hold.
 -- Assumes nothing.
-use Rattle.std.specs.Prelude.{◌≡◌, ℕ, ◌+◌, ◌-◌, ◌*◌, ◌^◌, ◌<◌, true, List, [], drop, length, Option, Some, Result, IfOk, OnErr}
+use Rattle.std.specs.Prelude.{◌≡◌, ◌≢◌, ℕ, suc, ◌+◌, ◌-◌, ◌*◌, ◌^◌, ◌<◌, true, List, [], drop, length, Option, Some, Result, IfOk, OnErr}
 use Rattle.field.specs.Symbols.{Symbols}
 use Rattle.code.specs.Codes.{full, half_for}
 use Rattle.code.specs.Contents.{Holds, parts}
 use Rattle.code.specs.Standing.{standing}
 use Rattle.refusal.specs.Refusals.{earliest, refusal}
 use Rattle.refusal.specs.declared.Refusal.{Refusal}
-use Rattle.shelf.specs.Meaning.{Meaning, box_count, with_out}
+use Rattle.shelf.specs.Meaning.{Meaning, box_count, column, with_out}
 use Rattle.shelf_rows.specs.Rows.{rows_at}
 use Rattle.stripe.specs.Stripes.{HoldsFile, OnlyStripe, StripeFile, held, stands}
 use Rattle.filing.specs.Restoring.{HoldsZero, Restored}
@@ -38,6 +38,14 @@ module _ (Y : Symbols) {T : Type 0} (value : T → Y.Symbol) where
     pub rows : s'.rows ≡ s.rows
     pub stand : (b : ℕ) → b < box_count s → stands s' b ≡ true
     pub zero : (b a : ℕ) → b < box_count s → a < s.rows → HoldsZero Y value s' b a
+
+  -- the box in place b stands, if there is one, and holds zero, and no other has changed
+  pub record ClearedBox (b : ℕ) (s s' : Meaning T) : Type 0 where
+    pub boxes : box_count s' ≡ box_count s
+    pub rows : s'.rows ≡ s.rows
+    pub stand : b < box_count s → stands s' b ≡ true
+    pub zero : (a : ℕ) → b < box_count s → a < s.rows → HoldsZero Y value s' b a
+    pub others : (d : ℕ) → d ≢ suc b → column s' d ≡ column s d
 
   module _ (m : ℕ) (s s' : Meaning T) where
     -- every box that stands holds its column of the file, and no box has come or gone

@@ -1,13 +1,24 @@
 -- A vault of a program, by its size and what its shelf means. Assumes nothing.
-use Rattle.std.specs.Prelude.{◌≡◌, ℕ, List, Option}
+use Rattle.std.specs.Prelude.{ℕ, List, Result, Ok, Err}
 use Rattle.field.specs.Symbols.{Symbols}
-use Rattle.refusal.specs.Refusals.{earliest}
 use Rattle.refusal.specs.declared.Refusal.{Refusal}
 use Rattle.shelf.specs.Meaning.{Meaning}
-use Rattle.ledger.specs.Calls.{State, reasons, size_of}
+use Rattle.ledger.specs.Calls.{State, size_of}
+use Rattle.ledger.specs.declared.calls.Answer.{Answer}
+use Rattle.ledger.specs.declared.calls.Answer.TheVariants.{Done, Count}
 use Rattle.ledger.specs.declared.calls.Call.{Call}
+use Rattle.vault_calls.specs.Calls.{Does}
 use Rattle.vault_calls.specs.States.{state}
 use Rattle.vault_calls.specs.declared.Vault.{Vault}
+
+-- what a call answers that answers nothing, or a count
+abbrev pub done : Result (Unit {0}) Refusal → Result Answer Refusal
+done (Ok x) = Ok Done
+done (Err why) = Err why
+
+abbrev pub counted : Result ℕ Refusal → Result Answer Refusal
+counted (Ok n) = Ok (Count n)
+counted (Err why) = Err why
 
 module _ (Y : Symbols) {T S : Type 0} (meaning : S → Meaning T) where
   abbrev pub state_of : Vault S T → State
@@ -17,11 +28,7 @@ module _ (Y : Symbols) {T S : Type 0} (meaning : S → Meaning T) where
   abbrev pub size_in : Vault S T → ℕ
   size_in v = size_of (state_of v)
 
-  -- why a call is declined, if it is
-  abbrev pub verdict : Vault S T → Call T (List T) → Option Refusal
-  verdict v call = earliest (reasons Y (state_of v) call)
-
--- two vaults of one size, on shelves that mean the same
-pub record SameVault {T S : Type 0} (meaning : S → Meaning T) (v w : Vault S T) : Type 0 where
-  pub size : w.size ≡ v.size
-  pub shelf : meaning w.shelf ≡ meaning v.shelf
+module _ (Y : Symbols) {T S : Type 0} (value : T → Y.Symbol) (meaning : S → Meaning T) where
+  -- the call takes the vault v to w, with this answer, and leaves this in its buffer
+  abbrev pub Did : Vault S T → Call T (List T) → Result Answer Refusal → List T → Vault S T → Type 0
+  Did v call answer buffer w = Does Y value v.size (meaning v.shelf) call (record { answer = answer; buffer = buffer }) w.size (meaning w.shelf)

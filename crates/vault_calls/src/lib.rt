@@ -1,5 +1,11 @@
-// A vault over any shelf: its calls.
+// A vault over any shelf: its nine calls.
 #![tactic(auto)]
+
+ghost use Rattle.std.specs.Prelude.{◌≡◌, None};
+
+mod box_calls;
+mod file_calls;
+mod set_up;
 
 use shelf::Shelf;
 
@@ -8,4 +14,21 @@ use shelf::Shelf;
 pub struct Vault<S: Shelf> {
     shelf: S,
     size: Option<usize>,
+}
+
+impl<S: Shelf> Vault<S> {
+    // A vault over a shelf, not set up.
+    pub fn new(shelf: S) -> Vault<S>
+        ensures shelf { result.shelf ≡ shelf }
+        ensures size { result.size ≡ None }
+    {
+        Vault { shelf, size: None }
+    }
+
+    // Lets the shelf go.
+    pub fn into_shelf(self) -> S
+        ensures { result ≡ self.shelf }
+    {
+        self.shelf
+    }
 }

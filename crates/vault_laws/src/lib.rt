@@ -8,9 +8,12 @@ ghost use Rattle.vault_calls.specs.Calls.{Reply};
 ghost use Rattle.vault_laws.specs.Laws.{VaultLaw};
 ghost use Rattle.vault_laws.specs.Runs.{Run};
 
+use code::code_stands;
 use field::Quotients;
 
 // The law of vaults, for any calls made one by one from a vault's making on.
 pub fn vaults_stand<F: Quotients>()
     ensures { (s s' : Meaning F) (calls : List (Call F (List F))) (replies : List (Reply F)) (size' : Option ℕ) → Run F.symbols F.value calls replies None s size' s' → VaultLaw F.symbols F.value s calls replies size' s' }
-{}
+{
+    code_stands::<F>()
+}
