@@ -177,7 +177,7 @@ class Ledger:
     def want_standing(self, number):
         refuse_if(number in self.out, 8)
 
-    def want_two_out(self):
+    def want_few_out(self):
         refuse_if(len(self.out) > 2, 10)
 
     def want_data_box(self, number):
@@ -188,7 +188,7 @@ class Ledger:
     def P(self, *symbols):
         self.want_set_up()
         refuse_if(len(symbols) != self.cabinet.symbols, 5)
-        self.want_two_out()
+        self.want_few_out()
         self.file = list(symbols)
         return []
 
@@ -196,13 +196,13 @@ class Ledger:
         self.want_set_up()
         refuse_if(not 1 <= number <= self.cabinet.data_boxes, 6)
         refuse_if(row >= self.cabinet.rows, 7)
-        self.want_two_out()
+        self.want_few_out()
         self.file[(number - 1) * self.cabinet.rows + row] = symbol
         return []
 
     def R(self):
         self.want_set_up()
-        self.want_two_out()
+        self.want_few_out()
         return self.file
 
     def C(self, number):
@@ -230,7 +230,7 @@ class Ledger:
         self.want_set_up()
         self.want_box(number)
         refuse_if(number not in self.out, 9)
-        self.want_two_out()
+        self.want_few_out()
         self.want_data_box(number)
         refuse_if(len(self.out) > 1, 11)
         self.out.remove(number)
@@ -238,7 +238,7 @@ class Ledger:
 
     def B(self):
         self.want_set_up()
-        self.want_two_out()
+        self.want_few_out()
         count = len(self.out)
         self.out = set()
         return [count]

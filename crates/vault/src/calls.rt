@@ -8,10 +8,12 @@ use script::{Answer, Command, Line, write_line};
 use std::alloc::{AllocError, Global};
 use vault_runs::Entry;
 
+// Absent for no number of a script that was read: those are below the field's size.
 fn symbol<F: Sums>(number: u32) -> anyhow::Result<F> {
     F::symbol(number).context("no symbol has that number")
 }
 
+// The symbols of numbers.
 fn symbols<F: Sums>(alloc: Global, numbers: &[u32]) -> anyhow::Result<Vec<F>> {
     let mut symbols = Vec::new(alloc);
     for number in numbers {
@@ -20,6 +22,7 @@ fn symbols<F: Sums>(alloc: Global, numbers: &[u32]) -> anyhow::Result<Vec<F>> {
     Ok(symbols)
 }
 
+// The numbers of symbols.
 fn numbers<F: Sums>(alloc: Global, symbols: &[F]) -> Result<Vec<u32>, AllocError> {
     let mut numbers = Vec::new(alloc);
     for symbol in symbols {
@@ -66,7 +69,7 @@ fn call<F: Sums>(
     })
 }
 
-// A call that has not been made.
+// A call that is still to be made: what it answered is no answer yet.
 fn unmade<F>(call: Call<F, Vec<F>>) -> Entry<F> {
     Entry {
         call,
@@ -74,7 +77,7 @@ fn unmade<F>(call: Call<F, Vec<F>>) -> Entry<F> {
     }
 }
 
-// Set up for size m, and then each command.
+// The calls of a script: set up for its m, and then each command.
 pub(crate) fn entries<F: Sums>(
     alloc: Global,
     m: usize,
@@ -89,7 +92,7 @@ pub(crate) fn entries<F: Sums>(
     Ok(entries)
 }
 
-// The symbols that a call answers, in its buffer.
+// The symbols that an accepted call leaves for its line, in its buffer.
 fn answered<F>(call: &Call<F, Vec<F>>) -> Option<&[F]> {
     match call {
         Call::Read(into) | Call::Column { into, .. } | Call::Message { into, .. } => Some(into),
@@ -132,7 +135,7 @@ fn write_command<F: Sums>(
     write_line(out, &line(command, entry.answer, numbers.as_deref()))
 }
 
-// The lines of set up and of the commands.
+// The lines of calls that were made.
 pub(crate) fn lines<F: Sums>(
     alloc: Global,
     commands: &[Command],
