@@ -45,16 +45,16 @@ module _ (Y : Symbols) {T : Type 0} (value : T → Y.Symbol) where
     m = size_of t
 
     module _ (s' s'' : Meaning T) (sound : IsShelf s') (sound' : IsShelf s'') where
-      -- what it leaves in its buffer, and of the shelf
-      abbrev Alike : List T → List T → Type 0
-      Alike buffer buffer' = (map value buffer ≡ map value buffer') × HoldSame Y value s' s''
+      -- the buffers that two accepted calls leave are the same, and so are the shelves
+      abbrev SameEnds : List T → List T → Type 0
+      SameEnds buffer buffer' = (map value buffer ≡ map value buffer') × HoldSame Y value s' s''
 
-      accepted_alike : (call : Call T (List T)) (buffer buffer' : List T) → ((why : Refusal) → Fits Y t why call → ⊥) → length buffer ≡ length (lent call) → length buffer' ≡ length (lent call)
-          → Accepts Y value m s s' call (answer_of m s call) buffer → Accepts Y value m s s'' call (answer_of m s call) buffer' → Alike buffer buffer'
-      accepted_alike (SetUp k) buffer buffer' free long long' did did' = (ap (map value) (did.1 ∙ sym did'.1), set_up_shelf Y value s s' s'' did.0 did'.0)
-      accepted_alike (Put file) buffer buffer' free long long' did did' =
+      accepted_same : (call : Call T (List T)) (buffer buffer' : List T) → ((why : Refusal) → Fits Y t why call → ⊥) → length buffer ≡ length (lent call) → length buffer' ≡ length (lent call)
+          → Accepts Y value m s s' call (answer_of m s call) buffer → Accepts Y value m s s'' call (answer_of m s call) buffer' → SameEnds buffer buffer'
+      accepted_same (SetUp k) buffer buffer' free long long' did did' = (ap (map value) (did.1 ∙ sym did'.1), set_up_shelf Y value s s' s'' did.0 did'.0)
+      accepted_same (Put file) buffer buffer' free long long' did did' =
           (ap (map value) (did.1 ∙ sym did'.1), put_shelf Y value m s (fitted (free NotSetUp)) s' s'' sound sound' file did.0 did'.0)
-      accepted_alike (Amend b a x work) buffer buffer' free long long' did did' =
+      accepted_same (Amend b a x work) buffer buffer' free long long' did did' =
           let wrong = free Length in
           let box = free NoBox in
           let row = free NoRow in
@@ -62,17 +62,17 @@ module _ (Y : Symbols) {T : Type 0} (value : T → Y.Symbol) where
             amend_buffer Y value m s s' s'' buffer buffer' (long ∙ whole) (long' ∙ whole) (b - 1) a (value x) did did',
             amend_shelf Y value m s (fitted (free NotSetUp)) s' s'' sound sound' (b - 1) a (value x) buffer buffer' did did' (grind arith) (grind arith),
           )
-      accepted_alike (Read into) buffer buffer' free long long' did did' =
+      accepted_same (Read into) buffer buffer' free long long' did did' =
           let wrong = free Length in
           let whole : length into ≡ 3 * m * 2 ^ m = grind arith in
           (file_buffer Y value m s s' s'' buffer buffer' (long ∙ whole) (long' ∙ whole) did.file did'.file, both_are Y value s s' s'' did.stays did'.stays)
-      accepted_alike (Column b into) buffer buffer' free long long' did did' = (ap (map value) (did.column ∙ sym did'.column), both_are Y value s s' s'' did.stays did'.stays)
-      accepted_alike (Message helper lost into) buffer buffer' free long long' did did' =
+      accepted_same (Column b into) buffer buffer' free long long' did did' = (ap (map value) (did.column ∙ sym did'.column), both_are Y value s s' s'' did.stays did'.stays)
+      accepted_same (Message helper lost into) buffer buffer' free long long' did did' =
           let wrong = free Length in
           let whole : length into ≡ 2 ^ (m - 1) = grind arith in
           (message_buffer Y value m s s' s'' buffer buffer' helper lost (long ∙ whole) (long' ∙ whole) did did', both_are Y value s s' s'' did.stays did'.stays)
-      accepted_alike (Lose b) buffer buffer' free long long' did did' = (ap (map value) (did.1 ∙ sym did'.1), both_are Y value _ s' s'' did.0 did'.0)
-      accepted_alike (Renew b work) buffer buffer' free long long' did did' =
+      accepted_same (Lose b) buffer buffer' free long long' did did' = (ap (map value) (did.1 ∙ sym did'.1), both_are Y value _ s' s'' did.0 did'.0)
+      accepted_same (Renew b work) buffer buffer' free long long' did did' =
           let fits = fitted (free NotSetUp) in
           let wrong = free Length in
           let box = free NoBox in
@@ -82,7 +82,7 @@ module _ (Y : Symbols) {T : Type 0} (value : T → Y.Symbol) where
                 ∙ sym (renewed_buffer Y value m fits.some s s'' b work buffer' _ (long' ∙ whole) did' _ (λ h j l w. refl)),
             renew_shelf Y value m s fits s' s'' sound sound' cabinets b work _ _ buffer buffer' did did' (grind arith),
           )
-      accepted_alike (Rebuild work) buffer buffer' free long long' did did' =
+      accepted_same (Rebuild work) buffer buffer' free long long' did did' =
           let wrong = free Length in
           let whole : length work ≡ 3 * m * 2 ^ m = grind arith in (
             file_buffer Y value m s s' s'' buffer buffer' (long ∙ whole) (long' ∙ whole) did.file did'.file,
@@ -90,7 +90,7 @@ module _ (Y : Symbols) {T : Type 0} (value : T → Y.Symbol) where
           )
 
   module _ (cabinets : CabinetsStand Y) (size : Option ℕ) (s : Meaning T) (call : Call T (List T)) where
-    -- what reasons depend on, and what an accepted call answers
+    -- what the reasons depend on, and what the call answers if it is accepted
     abbrev t : State
     t = state Y size s
 
@@ -130,11 +130,11 @@ module _ (Y : Symbols) {T : Type 0} (value : T → Y.Symbol) where
         by (Err why) (Ok y) e e' is is' = absurd (none-some why (is' ∙ sym is))
         by (Ok x) (Err other) e e' is is' = absurd (none-some other (is ∙ sym is'))
         by (Ok x) (Ok y) e e' is is' =
-            let alike = accepted_alike cabinets t s (force_fits Y s size) s' s'' sound sound' call r.buffer q.buffer (none_fits Y t call (sym is)) does.long does'.long
+            let same = accepted_same cabinets t s (force_fits Y s size) s' s'' sound sound' call r.buffer q.buffer (none_fits Y t call (sym is)) does.long does'.long
             (accepts r size' s' does x e) (accepts q size'' s'' does' y e') in
             record {
               answer = e ∙ ap Ok (answered r size' s' does x e ∙ sym (answered q size'' s'' does' y e')) ∙ sym e';
-              buffer = alike.0;
+              buffer = same.0;
               size = sized r size' s' does x e ∙ sym (sized q size'' s'' does' y e');
-              shelf = alike.1;
+              shelf = same.1;
             }

@@ -1,7 +1,6 @@
--- What fits where a call is not declined: no refusal, and a size in force fits the field and the shelf. Assumes nothing.
-use Rattle.std.proofs.Common.{◌≡◌, ℕ, ◌+◌, ◌*◌, ◌^◌, ◌≤◌, Bool, true, false, if◌then◌else◌, List, Option, Some, None, inl, inr, true≢false, unwrap_or, refl, sym, ap, ◌∙◌, subst, arith}
+-- No refusal fits a call that is not declined, and a size in force fits the field and the shelf. Assumes nothing.
+use Rattle.std.proofs.Common.{◌≡◌, ℕ, ◌+◌, ◌*◌, ◌^◌, ◌≤◌, Bool, true, false, if◌then◌else◌, List, Option, Some, None, true≢false, unwrap_or, refl, sym, ap, ◌∙◌, subst, arith}
 use Rattle.std.specs.Option.{is_none}
-use Rattle.std.proofs.lemmas.Bool.{cases_eq}
 use Rattle.field.specs.Symbols.{Symbols}
 use Rattle.refusal.specs.Refusals.{earliest}
 use Rattle.refusal.specs.declared.Refusal.{Refusal}
@@ -32,11 +31,12 @@ module _ (Y : Symbols) {T : Type 0} where
         let free = none_fits (shelf_state Y None s) (SetUp m) (none _ e) in
         let size = free Size in
         let marks = free Marks in
+        let shape = free Shape in
         record {
           some = grind arith;
           marks = omega arith;
-          boxes = elim (cases_eq (box_count s) (3 * m + 2)) [ inl e ↦ e | inr n ↦ absurd (free Shape (inl n)) ];
-          rows = elim (cases_eq s.rows (2 ^ m)) [ inl e ↦ e | inr n ↦ absurd (free Shape (inr n)) ];
+          boxes = grind arith;
+          rows = grind arith;
         }
       where
         none : (o : Option Refusal) → is_none o ≡ true → o ≡ None

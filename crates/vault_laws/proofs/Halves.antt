@@ -28,7 +28,7 @@ module _ (Y : Symbols) {T : Type 0} (value : T → Y.Symbol) (m : ℕ) (some : 1
   count = (3 * m + 1) * 2 ^ (m - 1)
 
   -- number j of the helper in place h
-  abbrev pub half_sent : ℕ → ℕ → Y.Symbol
+  abbrev half_sent : ℕ → ℕ → Y.Symbol
   half_sent h = half_for (full Y m) (b - 1) (held Y value m 0 s (helper (full Y m) (b - 1) h))
 
   -- the halves are at the front, helpers in rising order, and behind them the buffer is what it was

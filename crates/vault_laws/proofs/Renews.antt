@@ -10,7 +10,7 @@ use Rattle.shelf.specs.Meaning.{Meaning, is_out, is_standing}
 use Rattle.stripe.specs.Stripes.{HoldsFile, held, stands}
 use Rattle.stripe.proofs.Held.{held_same}
 use Rattle.renewing.specs.Renewals.{OthersHold}
-use Rattle.ledger.specs.Calls.{half_length, lent}
+use Rattle.ledger.specs.Calls.{half_length, lent, size_of}
 use Rattle.ledger.specs.Ledgers.{Ledger, accept, contents, halves_in}
 use Rattle.ledger.specs.declared.calls.Answer.{Answer}
 use Rattle.ledger.specs.declared.calls.Answer.TheVariants.{Done, Count}
@@ -84,11 +84,10 @@ module _ (Y : Symbols) {T : Type 0} (value : T → Y.Symbol) where
 
     whole : length work ≡ 3 * m * 2 ^ m
     whole =
-        let size = size_is Y value l m s agrees in
-        elim (cases_eq (length work) (3 * m * 2 ^ m)) [
-          | inl e ↦ e
-          | inr n ↦ absurd (clear Length (λ e. n (sym (length-map work value) ∙ e ∙ ap (λ k. 3 * k * 2 ^ k) size)))
-        ]
+        let wrong = clear Length in
+        let file : 3 * size_of l.state * 2 ^ size_of l.state ≡ 3 * m * 2 ^ m = ap (λ k. 3 * k * 2 ^ k) (size_is Y value l m s agrees) in
+        let told = length-map work value in
+        grind arith
 
     -- the halves at the front of the buffer are the ledger's
     left : map value buffer ≡ halves_in Y m l.file x ++ map value (drop count work)

@@ -14,15 +14,15 @@ module _ (Y : Symbols) {T : Type 0} (value : T → Y.Symbol) where
     pub stand : (b : ℕ) → is_standing s b ≡ is_standing t b
     pub symbols : (b a : ℕ) → a < s.rows → option_map value (symbol_at s b a) ≡ option_map value (symbol_at t b a)
 
-  -- two calls answered the same, and left the same in their buffers, of their vaults and on their shelves
+  -- two outcomes of a call: what it answered and left in its buffer, the size and what the shelf means afterwards
   pub record SameOutcome (r : Reply T) (size' : Option ℕ) (s' : Meaning T) (q : Reply T) (size'' : Option ℕ) (s'' : Meaning T) : Type 0 where
     pub answer : r.answer ≡ q.answer
     pub buffer : map value r.buffer ≡ map value q.buffer
     pub size : size' ≡ size''
     pub shelf : HoldSame s' s''
 
-  -- Whatever a call comes to from one size and meaning of the shelf, it comes to the same. What a shelf means is always
-  -- such as IsShelf says, by the law of shelves, and no contract of a call says so again.
+  -- Whatever a call comes to from one size and one meaning of the shelf, it comes to the same, for any contents of the shelf.
+  -- What a shelf means keeps to IsShelf, by the trait's law: so these premises hold of every shelf that a call can leave.
   abbrev pub OneOutcome : Option ℕ → Meaning T → Call T (List T) → Type 0
   OneOutcome size s call =
       (r q : Reply T) (size' size'' : Option ℕ) (s' s'' : Meaning T) → IsShelf s' → IsShelf s''
