@@ -1,10 +1,19 @@
--- Halves of columns that are the same. Assumes nothing.
-use Rattle.std.proofs.Common.{◌≡◌, ℕ, ◌+◌, ◌-◌, ◌^◌, ◌<◌, ◌≤◌, ap₂}
+-- Halves of columns that are the same, and the buffer that a renewal leaves them in. Assumes nothing.
+use Rattle.std.proofs.Common.{◌≡◌, ℕ, ◌+◌, ◌-◌, ◌*◌, ◌^◌, ◌<◌, ◌≤◌, List, ◌++◌, length, map, take, drop, get_or, sym, ap, ap₂, ◌∙◌, arith}
+use Rattle.std.proofs.lemmas.List.{get_or-take, length-take-le, map-append, take-append-drop, take-map}
+use Rattle.std.proofs.lemmas.Nat.{mul-add-lt}
+use Rattle.field.specs.Symbols.{Symbols}
 use Rattle.code.specs.Blocks.{half}
-use Rattle.code.specs.Codes.{Alike, Code, half_for, kind, shift}
+use Rattle.code.specs.Codes.{Alike, Code, full, half_for, helper, kind, shift}
+use Rattle.code.specs.Contents.{parts}
 use Rattle.code.specs.Rows.{lower}
 use Rattle.code.proofs.Pairing.{lower_below, upper_below}
 use Rattle.code.proofs.Theory.{shift_below}
+use Rattle.shelf.specs.Meaning.{Meaning}
+use Rattle.stripe.specs.Stripes.{held}
+use Rattle.renewing.proofs.Restored.{room}
+use Rattle.ledger.proofs.Lists.{joined, joined_held}
+use Rattle.vault_calls.specs.Calls.{BoxRenewed}
 
 -- columns that are the same have the same halves
 pub half_same : {A : Type 0} (c : Code A) → 1 ≤ c.size → (x : ℕ) (C E : ℕ → A) → Alike c C E → (j : ℕ) → j < 2 ^ (c.size - 1) → half_for c x C j ≡ half_for c x E j
@@ -12,3 +21,26 @@ half_same c some x C E same j l =
     let k = shift c x in
     let inside = shift_below c x some in
     ap₂ (half c.ring (kind c x)) (same (lower k j) (lower_below c.size k j inside l)) (same (lower k j + 2 ^ k) (upper_below c.size k j inside l))
+
+module _ (Y : Symbols) {T : Type 0} (value : T → Y.Symbol) (m : ℕ) (some : 1 ≤ m) (s s' : Meaning T) (b : ℕ) (work buffer : List T) (taken : ℕ) (long : length buffer ≡ 3 * m * 2 ^ m)
+    (did : BoxRenewed Y value m s s' b work buffer taken) where
+  abbrev count : ℕ
+  count = (3 * m + 1) * 2 ^ (m - 1)
+
+  -- number j of the helper in place h
+  abbrev half_sent : ℕ → ℕ → Y.Symbol
+  half_sent h = half_for (full Y m) (b - 1) (held Y value m 0 s (helper (full Y m) (b - 1) h))
+
+  -- the halves are at the front, helpers in rising order, and behind them the buffer is what it was
+  pub renewed_buffer : (half_of : ℕ → ℕ → Y.Symbol) → ((h j : ℕ) → h < 3 * m + 1 → j < 2 ^ (m - 1) → half_sent h j ≡ half_of h j)
+      → map value buffer ≡ joined (2 ^ (m - 1)) half_of 0 (3 * m + 1) ++ map value (drop count work)
+  renewed_buffer half_of are =
+      ap (map value) (sym (take-append-drop count buffer)) ∙ map-append value (take count buffer) (drop count buffer)
+      ∙ ap₂ ◌++◌ (joined_held Y value (2 ^ (m - 1)) (3 * m + 1) half_of (take count buffer) (length-take-le count buffer (omega (arith, long, room m some))) number) (ap (map value) did.rest)
+    where
+      number : (h j : ℕ) → h < 3 * m + 1 → j < 2 ^ (m - 1) → parts Y value (2 ^ (m - 1)) (take count buffer) h j ≡ half_of h j
+      number h j i w =
+          let place = h * 2 ^ (m - 1) + j in
+          ap (λ ys. get_or ys place Y.ring.zero) (sym (take-map value count buffer))
+          ∙ get_or-take count (map value buffer) place Y.ring.zero (omega (arith, mul-add-lt h (2 ^ (m - 1)) j (3 * m + 1) i w))
+          ∙ did.renewed.taken h i j w ∙ are h j i w

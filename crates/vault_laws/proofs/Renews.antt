@@ -1,25 +1,21 @@
 -- An accepted renewal goes as the ledger's. Assumes nothing.
-use Rattle.std.proofs.Common.{◌≡◌, ◌≢◌, ℕ, suc, ◌+◌, ◌-◌, ◌*◌, ◌^◌, ◌<◌, ◌≤◌, true, false, not, ◌&&◌, ◌==◌, List, ◌++◌, length, map, take, drop, get_or, Some, Ok, is_some, inl, inr, refl, sym, ap, ap₂, ◌∙◌, subst, arith, tests}
+use Rattle.std.proofs.Common.{◌≡◌, ◌≢◌, ℕ, suc, ◌+◌, ◌-◌, ◌*◌, ◌^◌, ◌<◌, ◌≤◌, true, false, not, ◌&&◌, ◌==◌, List, ◌++◌, length, map, drop, Some, Ok, is_some, inl, inr, refl, sym, ap, ◌∙◌, subst, arith, tests}
 use Rattle.std.proofs.lemmas.Bool.{cases_eq}
-use Rattle.std.proofs.lemmas.List.{drop-map, get_or-take, length-map, length-take-le, map-append, take-append-drop, take-map}
-use Rattle.std.proofs.lemmas.Nat.{mul-add-lt}
+use Rattle.std.proofs.lemmas.List.{drop-map, length-map}
 use Rattle.field.specs.Symbols.{Symbols}
 use Rattle.code.specs.Codes.{Alike, File, column, full, half_for, helper}
-use Rattle.code.specs.Contents.{parts}
 use Rattle.code.proofs.Columns.{column_data}
 use Rattle.refusal.specs.declared.Refusal.TheVariants.{Length, NoBox, NotRenewable, Standing}
 use Rattle.shelf.specs.Meaning.{Meaning, is_out, is_standing}
 use Rattle.stripe.specs.Stripes.{HoldsFile, held, stands}
 use Rattle.stripe.proofs.Held.{held_same}
 use Rattle.renewing.specs.Renewals.{OthersHold}
-use Rattle.renewing.proofs.Restored.{room}
-use Rattle.ledger.specs.Calls.{half_length, lent}
+use Rattle.ledger.specs.Calls.{half_length, lent, size_of}
 use Rattle.ledger.specs.Ledgers.{Ledger, accept, contents, halves_in}
 use Rattle.ledger.specs.declared.calls.Answer.{Answer}
 use Rattle.ledger.specs.declared.calls.Answer.TheVariants.{Done, Count}
 use Rattle.ledger.specs.declared.calls.Call.TheVariants.{Renew}
 use Rattle.ledger.proofs.Accepted.{still}
-use Rattle.ledger.proofs.Lists.{joined_held}
 use Rattle.ledger.proofs.Steps.{Clear}
 use Rattle.vault_calls.specs.Calls.{Accepts, BoxRenewed}
 use Rattle.vault_laws.specs.Agreement.{Agrees, told_call}
@@ -27,7 +23,7 @@ use Rattle.vault_laws.proofs.Agreeing.{agreeing, out_and_standing, out_same, siz
 use Rattle.vault_laws.proofs.Counts.{others_stand}
 use Rattle.vault_laws.proofs.Files.{is_set_up}
 use Rattle.vault_laws.proofs.Going.{Goes}
-use Rattle.vault_laws.proofs.Halves.{half_same}
+use Rattle.vault_laws.proofs.Halves.{half_same, renewed_buffer}
 
 module _ (Y : Symbols) {T : Type 0} (value : T → Y.Symbol) where
   module _ (l : Ledger Y) (m : ℕ) (s s' : Meaning T) (agrees : Agrees Y value l (Some m) s) (b : ℕ) (work : List T) (taken : ℕ) (buffer : List T)
@@ -86,29 +82,21 @@ module _ (Y : Symbols) {T : Type 0} (value : T → Y.Symbol) where
           in grind (arith, tests)
     ]
 
+    whole : length work ≡ 3 * m * 2 ^ m
+    whole =
+        let wrong = clear Length in
+        let file : 3 * size_of l.state * 2 ^ size_of l.state ≡ 3 * m * 2 ^ m = ap (λ k. 3 * k * 2 ^ k) (size_is Y value l m s agrees) in
+        let told = length-map work value in
+        grind arith
+
     -- the halves at the front of the buffer are the ledger's
-    fits : count ≤ length buffer
-    fits =
-        let size = size_is Y value l m s agrees in
-        let whole : length work ≡ 3 * m * 2 ^ m = elim (cases_eq (length work) (3 * m * 2 ^ m)) [
-          | inl e ↦ e
-          | inr n ↦ absurd (clear Length (λ e. n (sym (length-map work value) ∙ e ∙ ap (λ k. 3 * k * 2 ^ k) size)))
-        ]
-        in omega (arith, whole, room m (is_set_up Y value l m s agrees).some)
-
-    number : (h j : ℕ) → h < 3 * m + 1 → j < 2 ^ (m - 1) → parts Y value (2 ^ (m - 1)) (take count buffer) h j ≡ half_of h j
-    number h j i w =
-        let place = h * 2 ^ (m - 1) + j in
+    left : map value buffer ≡ halves_in Y m l.file x ++ map value (drop count work)
+    left =
+        let some = (is_set_up Y value l m s agrees).some in
+        renewed_buffer Y value m some s s' b work buffer taken (long ∙ whole) did half_of
+        (λ h j i w.
         let d = helper (full Y m) x h in
-        let apart : d ≢ x = grind (arith, tests) in
-        let below : d < 3 * m + 2 = grind (arith, tests) in
-        ap (λ ys. get_or ys place Y.ring.zero) (sym (take-map value count buffer))
-        ∙ get_or-take count (map value buffer) place Y.ring.zero (omega (arith, mul-add-lt h (2 ^ (m - 1)) j (3 * m + 1) i w))
-        ∙ did.renewed.taken h i j w
-        ∙ half_same (full Y m) (is_set_up Y value l m s agrees).some x (held Y value m 0 s d) (column (full Y m) f d) (hold d below apart) j w
-
-    front : map value (take count buffer) ≡ halves_in Y m l.file x
-    front = joined_held Y value (2 ^ (m - 1)) (3 * m + 1) half_of (take count buffer) (length-take-le count buffer fits) number
+        half_same (full Y m) some x (held Y value m 0 s d) (column (full Y m) f d) (hold d (grind (arith, tests)) (grind (arith, tests))) j w)
 
     goes : Goes Y value (accept Y l (told_call Y value (Renew b work))) (Count taken) buffer (Some m) s'
     goes =
@@ -117,9 +105,7 @@ module _ (Y : Symbols) {T : Type 0} (value : T → Y.Symbol) where
           answer = ap (λ k. Ok (Count ((3 * k + 1) * half_length k))) size ∙ ap (λ n. Ok (Count n)) (sym did.count);
           buffer_is =
               ap (λ k. halves_in Y k l.file x ++ drop ((3 * k + 1) * half_length k) (map value work)) size
-              ∙ ap₂ ◌++◌ (sym front) (drop-map value count work ∙ ap (map value) (sym did.rest))
-              ∙ sym (map-append value (take count buffer) (drop count buffer))
-              ∙ ap (map value) (take-append-drop count buffer);
+              ∙ ap (λ ys. halves_in Y m l.file x ++ ys) (drop-map value count work) ∙ sym left;
           agrees = agreeing Y value _ m s' (still Y l agrees.lawful _ clear) (did.put_in.boxes ∙ agrees.boxes) (did.put_in.rows ∙ agrees.rows) agrees.sized out_now holds;
         }
 

@@ -1,3 +1,4 @@
 pub mod Agreement
+pub mod Determined
 pub mod Laws
 pub mod Runs
