@@ -3,12 +3,12 @@
 
 ghost use Rattle.std.specs.Prelude.{◌≡◌, None, map};
 ghost use Rattle.ledger.specs.Calls.{lent};
-ghost use Rattle.vault_calls.specs.Vaults.{Did};
+ghost use Rattle.ledger.specs.declared.calls.Answer.TheVariants.{Done};
+ghost use Rattle.ledger.specs.declared.calls.Call.TheVariants.{Put};
+ghost use Rattle.vault_calls.specs.Vaults.{Did, done as as_answer};
 ghost use Rattle.vault_laws.specs.Laws.{VaultLaw};
 ghost use Rattle.vault_laws.specs.Runs.{Run};
 ghost use Rattle.vault_runs.specs.Entries.{asked, bare, calls, replies};
-
-mod making;
 
 use field::Quotients;
 use ledger::{Answer, Call};
@@ -24,6 +24,23 @@ pub struct Entry<F> {
     pub answer: Result<Answer, Refusal>,
 }
 
+fn done(_: ()) -> Answer
+    ensures { result ≡ Done }
+{
+    Answer::Done
+}
+
+// Puts the file in a vector, which stays.
+fn put<F: Quotients, S: Shelf<Symbol = F>>(
+    vault: &mut Vault<S>,
+    file: &mut Vec<F>,
+) -> Result<(), Refusal>
+    ensures does { Did F.symbols F.value S.meaning vault.old (Put file.old.items) (as_answer result) file.new.items vault.new }
+    ensures lender { S.buffers vault.new.shelf ≡ S.buffers vault.old.shelf }
+{
+    vault.put(file)
+}
+
 // Makes one call, with the buffer that it holds. But for what is in that, the
 // call stays.
 pub fn serve<F: Quotients, S: Shelf<Symbol = F>>(
@@ -35,20 +52,20 @@ pub fn serve<F: Quotients, S: Shelf<Symbol = F>>(
     ensures lender { S.buffers vault.new.shelf ≡ S.buffers vault.old.shelf }
 {
     match call {
-        Call::SetUp(m) => making::set_up(vault, *m),
-        Call::Put(file) => making::put(vault, file),
+        Call::SetUp(m) => vault.set_up(*m).map(done),
+        Call::Put(file) => put(vault, file).map(done),
         Call::Amend {
             number,
             row,
             symbol,
             work,
-        } => making::amend(vault, *number, *row, *symbol, work),
-        Call::Read(into) => making::read(vault, into),
-        Call::Column { number, into } => making::column(vault, *number, into),
-        Call::Message { helper, lost, into } => making::message(vault, *helper, *lost, into),
-        Call::Lose(number) => making::lose(vault, *number),
-        Call::Renew { number, work } => making::renew(vault, *number, work),
-        Call::Rebuild(work) => making::rebuild(vault, work),
+        } => vault.amend(*number, *row, *symbol, work).map(done),
+        Call::Read(into) => vault.read(into).map(done),
+        Call::Column { number, into } => vault.column(*number, into).map(done),
+        Call::Message { helper, lost, into } => vault.message(*helper, *lost, into).map(done),
+        Call::Lose(number) => vault.lose(*number).map(done),
+        Call::Renew { number, work } => vault.renew(*number, work).map(Answer::Count),
+        Call::Rebuild(work) => vault.rebuild(work).map(Answer::Count),
     }
 }
 
