@@ -3,7 +3,7 @@ use Rattle.std.specs.Prelude.{ℕ, List, Result, Ok, Err}
 use Rattle.field.specs.Symbols.{Symbols}
 use Rattle.refusal.specs.declared.Refusal.{Refusal}
 use Rattle.shelf.specs.Meaning.{Meaning}
-use Rattle.ledger.specs.Calls.{State, size_of}
+use Rattle.ledger.specs.Calls.{State}
 use Rattle.ledger.specs.declared.calls.Answer.{Answer}
 use Rattle.ledger.specs.declared.calls.Answer.TheVariants.{Done, Count}
 use Rattle.ledger.specs.declared.calls.Call.{Call}
@@ -23,10 +23,6 @@ counted (Err why) = Err why
 module _ (Y : Symbols) {T S : Type 0} (meaning : S → Meaning T) where
   abbrev pub state_of : Vault S T → State
   state_of v = state Y v.size (meaning v.shelf)
-
-  -- the size in force, and 0 before it is set up
-  abbrev pub size_in : Vault S T → ℕ
-  size_in v = size_of (state_of v)
 
 module _ (Y : Symbols) {T S : Type 0} (value : T → Y.Symbol) (meaning : S → Meaning T) where
   -- the call takes the vault v to w, with this answer, and leaves this in its buffer

@@ -37,7 +37,6 @@ fn filling<F: Sums, S: Shelf<Symbol = F>>(shelf: &mut S, m: usize) -> Result<Str
 }
 
 // Makes the box in place b stand, with zero in every row.
-
 fn clear_box<F: Sums, S: Shelf<Symbol = F>>(shelf: &mut S, b: usize)
     requires { b < 32 }
     ensures after { ClearedBox F.symbols F.value b (S.meaning shelf.old) (S.meaning shelf.new) }
