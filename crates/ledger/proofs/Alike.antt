@@ -16,7 +16,8 @@ use Rattle.ledger.specs.declared.calls.Call.TheVariants.{SetUp, Put, Amend, Read
 use Rattle.ledger.proofs.Steps.{Clear}
 
 module _ {A : Type 0} (c : Code A) (some : 1 ≤ c.size) where
-  half_same : (x : ℕ) (C E : ℕ → A) → Alike c C E → (j : ℕ) → j < 2 ^ (c.size - 1) → half_for c x C j ≡ half_for c x E j
+  -- columns that are the same have the same halves
+  pub half_same : (x : ℕ) (C E : ℕ → A) → Alike c C E → (j : ℕ) → j < 2 ^ (c.size - 1) → half_for c x C j ≡ half_for c x E j
   half_same x C E s j l =
       let k = shift c x in
       let inside = shift_below c x some in

@@ -43,6 +43,6 @@ pub enum Call<T, B> {
 #[derive(Clone, Copy, Debug, PartialEq, Eq)]
 pub enum Answer {
     Done,
-    // How many symbols were read to renew a box, or how many boxes were rebuilt.
+    // How many numbers were taken to renew a box, or how many boxes were rebuilt.
     Count(usize),
 }

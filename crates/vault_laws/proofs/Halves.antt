@@ -1,26 +1,15 @@
--- Halves of columns that are the same, and the buffer that a renewal leaves them in. Assumes nothing.
+-- The buffer that a renewal leaves halves in. Assumes nothing.
 use Rattle.std.proofs.Common.{◌≡◌, ℕ, ◌+◌, ◌-◌, ◌*◌, ◌^◌, ◌<◌, ◌≤◌, List, ◌++◌, length, map, take, drop, get_or, sym, ap, ap₂, ◌∙◌, arith}
 use Rattle.std.proofs.lemmas.List.{get_or-take, length-take-le, map-append, take-append-drop, take-map}
 use Rattle.std.proofs.lemmas.Nat.{mul-add-lt}
 use Rattle.field.specs.Symbols.{Symbols}
-use Rattle.code.specs.Blocks.{half}
-use Rattle.code.specs.Codes.{Alike, Code, full, half_for, helper, kind, shift}
+use Rattle.code.specs.Codes.{full, half_for, helper}
 use Rattle.code.specs.Contents.{parts}
-use Rattle.code.specs.Rows.{lower}
-use Rattle.code.proofs.Pairing.{lower_below, upper_below}
-use Rattle.code.proofs.Theory.{shift_below}
 use Rattle.shelf.specs.Meaning.{Meaning}
 use Rattle.stripe.specs.Stripes.{held}
 use Rattle.renewing.proofs.Restored.{room}
 use Rattle.ledger.proofs.Lists.{joined, joined_held}
 use Rattle.vault_calls.specs.Calls.{BoxRenewed}
-
--- columns that are the same have the same halves
-pub half_same : {A : Type 0} (c : Code A) → 1 ≤ c.size → (x : ℕ) (C E : ℕ → A) → Alike c C E → (j : ℕ) → j < 2 ^ (c.size - 1) → half_for c x C j ≡ half_for c x E j
-half_same c some x C E same j l =
-    let k = shift c x in
-    let inside = shift_below c x some in
-    ap₂ (half c.ring (kind c x)) (same (lower k j) (lower_below c.size k j inside l)) (same (lower k j + 2 ^ k) (upper_below c.size k j inside l))
 
 module _ (Y : Symbols) {T : Type 0} (value : T → Y.Symbol) (m : ℕ) (some : 1 ≤ m) (s s' : Meaning T) (b : ℕ) (work buffer : List T) (taken : ℕ) (long : length buffer ≡ 3 * m * 2 ^ m)
     (did : BoxRenewed Y value m s s' b work buffer taken) where

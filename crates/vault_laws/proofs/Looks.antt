@@ -14,13 +14,13 @@ use Rattle.ledger.specs.declared.calls.Answer.TheVariants.{Done}
 use Rattle.ledger.specs.declared.calls.Call.TheVariants.{Read, Column, Message}
 use Rattle.ledger.proofs.Lists.{length-listed, listed_held}
 use Rattle.ledger.proofs.Steps.{Clear}
+use Rattle.ledger.proofs.Alike.{half_same}
 use Rattle.vault_calls.specs.Calls.{Accepts}
 use Rattle.vault_laws.specs.Agreement.{Agrees, told_call}
 use Rattle.vault_laws.proofs.Agreeing.{box_count_is, size_is}
 use Rattle.vault_laws.proofs.Buffers.{long_as}
 use Rattle.vault_laws.proofs.Files.{is_set_up, the_list}
 use Rattle.vault_laws.proofs.Going.{Goes}
-use Rattle.vault_laws.proofs.Halves.{half_same}
 
 module _ (Y : Symbols) {T : Type 0} (value : T → Y.Symbol) (l : Ledger Y) (m : ℕ) (s s' : Meaning T) (agrees : Agrees Y value l (Some m) s) where
   -- nothing has changed

@@ -17,13 +17,14 @@ use Rattle.ledger.specs.declared.calls.Answer.TheVariants.{Done, Count}
 use Rattle.ledger.specs.declared.calls.Call.TheVariants.{Renew}
 use Rattle.ledger.proofs.Accepted.{still}
 use Rattle.ledger.proofs.Steps.{Clear}
+use Rattle.ledger.proofs.Alike.{half_same}
 use Rattle.vault_calls.specs.Calls.{Accepts, BoxRenewed}
 use Rattle.vault_laws.specs.Agreement.{Agrees, told_call}
 use Rattle.vault_laws.proofs.Agreeing.{agreeing, out_and_standing, out_same, size_is, stand_is}
 use Rattle.vault_laws.proofs.Counts.{others_stand}
 use Rattle.vault_laws.proofs.Files.{is_set_up}
 use Rattle.vault_laws.proofs.Going.{Goes}
-use Rattle.vault_laws.proofs.Halves.{half_same, renewed_buffer}
+use Rattle.vault_laws.proofs.Halves.{renewed_buffer}
 
 module _ (Y : Symbols) {T : Type 0} (value : T → Y.Symbol) where
   module _ (l : Ledger Y) (m : ℕ) (s s' : Meaning T) (agrees : Agrees Y value l (Some m) s) (b : ℕ) (work : List T) (taken : ℕ) (buffer : List T)
