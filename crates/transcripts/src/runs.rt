@@ -56,7 +56,7 @@ fn no_script(alloc: Global) -> Result<String, AllocError> {
 }
 
 // The transcript of a script.
-pub(crate) fn transcript(alloc: Global, text: &[u8]) -> anyhow::Result<String> {
+pub fn transcript(alloc: Global, text: &[u8]) -> anyhow::Result<String> {
     let Some(script) = parse(alloc, text)? else {
         return Ok(no_script(alloc)?);
     };
