@@ -1,6 +1,16 @@
-// Commands as calls, and what calls answer as lines of a transcript.
+// Commands as calls, and what calls came to as lines of a transcript.
+ghost use Rattle.std.specs.Prelude.{◌≡◌, ◌<◌, ◌++◌, IfOk, OnOk, map};
+ghost use Rattle.std.specs.List.{AllByRecursion};
+ghost use Rattle.std.specs.String.{string_bytes};
+ghost use Rattle.ledger.specs.Calls.{lent};
+ghost use Rattle.script.specs.Scripts.{IsCommand, command_value};
+ghost use Rattle.script.specs.Transcripts.{answered as answered_of, line_printed, numbers_of, status};
+ghost use Rattle.vault_laws.specs.Agreement.{told_call};
+ghost use Rattle.vault_runs.specs.Entries.{asked};
+ghost use Rattle.transcripts.specs.Requests.{answered, call_of, calls_of, command_line, command_lines, lines as lines_of, numbered_call, shown as shown_of};
+ghost use Rattle.transcripts.specs.Runs.{called, came_to};
+
 use crate::lengths::Lengths;
-use anyhow::Context;
 use field::Sums;
 use ledger::Call;
 use refusal::Refusal;
@@ -8,19 +18,28 @@ use script::{Answer, Command, Line, write_line};
 use std::alloc::{AllocError, Global};
 use vault_runs::Entry;
 
-fn symbol<F: Sums>(number: u32) -> anyhow::Result<F> {
-    F::symbol(number).context("no symbol has that number")
+// The symbol of a number that is below the field's size.
+fn symbol<F: Sums>(number: u32) -> F
+    requires { number < F.symbols.size }
+    ensures { F.symbols.number (F.value result) ≡ number }
+{
+    F::symbol(number).unwrap()
 }
 
-fn symbols<F: Sums>(alloc: Global, numbers: &[u32]) -> anyhow::Result<Vec<F>> {
+fn symbols<F: Sums>(alloc: Global, numbers: &[u32]) -> Result<Vec<F>, AllocError>
+    requires { AllByRecursion (λ n. n < F.symbols.size) numbers.now }
+    ensures { IfOk result (λ v. map F.symbols.number (map F.value v.items) ≡ numbers.now) }
+{
     let mut symbols = Vec::new(alloc);
     for number in numbers {
-        symbols.push(symbol(*number)?)?;
+        symbols.push(symbol(*number))?;
     }
     Ok(symbols)
 }
 
-fn numbers<F: Sums>(alloc: Global, symbols: &[F]) -> Result<Vec<u32>, AllocError> {
+fn numbers<F: Sums>(alloc: Global, symbols: &[F]) -> Result<Vec<u32>, AllocError>
+    ensures { IfOk result (λ v. v.items ≡ map F.symbols.number (map F.value symbols.now)) }
+{
     let mut numbers = Vec::new(alloc);
     for symbol in symbols {
         numbers.push(symbol.number())?;
@@ -34,7 +53,10 @@ fn call<F: Sums>(
     alloc: Global,
     lengths: &Lengths,
     command: &Command,
-) -> anyhow::Result<Call<F, Vec<F>>> {
+) -> Result<Call<F, Vec<F>>, AllocError>
+    requires { IsCommand F.symbols.size (command_value command.now) }
+    ensures { IfOk result (λ call. numbered_call F.symbols (told_call F.symbols F.value (asked call)) ≡ call_of F.symbols lengths.now.m (command_value command.now)) }
+{
     Ok(match command {
         Command::Put(numbers) => Call::Put(symbols(alloc, numbers)?),
         Command::Amend {
@@ -44,7 +66,7 @@ fn call<F: Sums>(
         } => Call::Amend {
             number: *data_box,
             row: *row,
-            symbol: symbol(*number)?,
+            symbol: symbol(*number),
             work: lengths.file(alloc)?,
         },
         Command::Read => Call::Read(lengths.file(alloc)?),
@@ -67,7 +89,9 @@ fn call<F: Sums>(
 }
 
 // A call that has not been made.
-fn unmade<F>(call: Call<F, Vec<F>>) -> Entry<F> {
+fn unmade<F>(call: Call<F, Vec<F>>) -> Entry<F>
+    ensures { result.call ≡ call }
+{
     Entry {
         call,
         answer: Err(Refusal::NotSetUp),
@@ -79,7 +103,10 @@ pub(crate) fn entries<F: Sums>(
     alloc: Global,
     m: usize,
     commands: &[Command],
-) -> anyhow::Result<Vec<Entry<F>>> {
+) -> Result<Vec<Entry<F>>, AllocError>
+    requires { AllByRecursion (IsCommand F.symbols.size) (map command_value commands.now) }
+    ensures { IfOk result (λ v. map (λ e. numbered_call F.symbols (called F.symbols F.value e)) v.items ≡ calls_of F.symbols m (map command_value commands.now)) }
+{
     let lengths = Lengths::new(m);
     let mut entries = Vec::new(alloc);
     entries.push(unmade(Call::SetUp(m)))?;
@@ -89,23 +116,42 @@ pub(crate) fn entries<F: Sums>(
     Ok(entries)
 }
 
-// The symbols that a call answers, in its buffer.
-fn answered<F>(call: &Call<F, Vec<F>>) -> Option<&[F]> {
+// The symbols in the buffer of a call.
+fn buffer<F>(call: &Call<F, Vec<F>>) -> &[F]
+    ensures { result.now ≡ lent (asked call.now) }
+{
     match call {
-        Call::Read(into) | Call::Column { into, .. } | Call::Message { into, .. } => Some(into),
-        _ => None,
+        Call::SetUp(_) | Call::Lose(_) => &[],
+        Call::Put(file) => file,
+        Call::Read(into) | Call::Column { into, .. } | Call::Message { into, .. } => into,
+        Call::Amend { work, .. } | Call::Renew { work, .. } | Call::Rebuild(work) => work,
     }
 }
 
-// What a call answered, as its line has it.
+// What the line of a command has, of the symbols in the buffer of its call.
+fn shown<'a>(command: &Command, symbols: &'a [u32]) -> Answer<'a>
+    ensures { numbers_of result ≡ shown_of (command_value command.now) symbols.now }
+{
+    match command {
+        Command::Read | Command::Column { .. } | Command::Message { .. } => {
+            Answer::Symbols(symbols)
+        }
+        _ => Answer::Nothing,
+    }
+}
+
+// What a call answered, as the line of its command has it.
 fn outcome<'a>(
+    command: &Command,
     answer: Result<ledger::Answer, Refusal>,
-    symbols: Option<&'a [u32]>,
-) -> Result<Answer<'a>, Refusal> {
-    match (answer?, symbols) {
-        (ledger::Answer::Count(n), _) => Ok(Answer::Count(n)),
-        (ledger::Answer::Done, Some(symbols)) => Ok(Answer::Symbols(symbols)),
-        (ledger::Answer::Done, None) => Ok(Answer::Nothing),
+    symbols: &'a [u32],
+) -> Result<Answer<'a>, Refusal>
+    ensures status { status result ≡ status answer }
+    ensures answered { answered_of result ≡ answered (command_value command.now) answer symbols.now }
+{
+    match answer? {
+        ledger::Answer::Count(n) => Ok(Answer::Count(n)),
+        ledger::Answer::Done => Ok(shown(command, symbols)),
     }
 }
 
@@ -113,9 +159,11 @@ fn outcome<'a>(
 fn line<'a>(
     command: &'a Command,
     answer: Result<ledger::Answer, Refusal>,
-    symbols: Option<&'a [u32]>,
-) -> Line<'a> {
-    Line::Ran(command, outcome(answer, symbols))
+    symbols: &'a [u32],
+) -> Line<'a>
+    ensures { line_printed result ≡ command_line (command_value command.now) (record { answer = answer; buffer = symbols.now }) }
+{
+    Line::Ran(command, outcome(command, answer, symbols))
 }
 
 // Appends the line of a command.
@@ -124,12 +172,26 @@ fn write_command<F: Sums>(
     out: &mut String,
     command: &Command,
     entry: &Entry<F>,
-) -> Result<(), AllocError> {
-    let numbers = match answered(&entry.call) {
-        Some(symbols) => Some(numbers(alloc, symbols)?),
-        None => None,
-    };
-    write_line(out, &line(command, entry.answer, numbers.as_deref()))
+) -> Result<(), AllocError>
+    ensures { OnOk result (string_bytes out.new ≡ string_bytes out.old ++ command_line (command_value command.now) (came_to F.symbols F.value entry.now)) }
+{
+    let symbols = numbers(alloc, buffer(&entry.call))?;
+    write_line(out, &line(command, entry.answer, &symbols))
+}
+
+// Appends the lines of commands.
+fn write_commands<F: Sums>(
+    alloc: Global,
+    out: &mut String,
+    commands: &[Command],
+    entries: &[Entry<F>],
+) -> Result<(), AllocError>
+    ensures { OnOk result (string_bytes out.new ≡ string_bytes out.old ++ command_lines (map command_value commands.now) (map (came_to F.symbols F.value) entries.now)) }
+{
+    for (command, entry) in commands.iter().zip(entries) {
+        write_command(alloc, out, command, entry)?;
+    }
+    Ok(())
 }
 
 // The lines of set up and of the commands.
@@ -137,13 +199,13 @@ pub(crate) fn lines<F: Sums>(
     alloc: Global,
     commands: &[Command],
     entries: &[Entry<F>],
-) -> Result<String, AllocError> {
+) -> Result<String, AllocError>
+    ensures { IfOk result (λ out. string_bytes out ≡ lines_of (map command_value commands.now) (map (came_to F.symbols F.value) entries.now)) }
+{
     let mut out = String::new(alloc);
     if let [first, rest @ ..] = entries {
         write_line(&mut out, &Line::SetUp(first.answer.map(|_| ())))?;
-        for (command, entry) in commands.iter().zip(rest) {
-            write_command(alloc, &mut out, command, entry)?;
-        }
+        write_commands(alloc, &mut out, commands, rest)?;
     }
     Ok(out)
 }

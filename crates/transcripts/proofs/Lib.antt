@@ -1,0 +1,5 @@
+pub mod Lists
+pub mod Printing
+pub mod Read
+pub mod Shelves
+pub mod Transcribed

@@ -1,0 +1,3 @@
+pub mod Lengths
+pub mod Requests
+pub mod Runs
