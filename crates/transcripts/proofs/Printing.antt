@@ -4,7 +4,7 @@ use Rattle.std.proofs.lemmas.Bool.{cases_lt}
 use Rattle.std.proofs.lemmas.List.{append-nil, drop_all, drop_more}
 use Rattle.script.specs.Scripts.{CommandValue}
 use Rattle.vault_calls.specs.Calls.{Reply}
-use Rattle.transcripts.specs.Requests.{command_line, command_lines}
+use Rattle.transcripts.specs.Lines.{command_line, command_lines}
 
 no_replies : (commands : List CommandValue) → command_lines commands [] ≡ []
 no_replies [] = refl

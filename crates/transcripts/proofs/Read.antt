@@ -4,7 +4,7 @@ use Rattle.std.specs.List.{AllByRecursion}
 use Rattle.script.specs.Scripts.{IsCommand, Prints, ScriptValue, script_value, size}
 use Rattle.script.specs.declared.commands.FieldName.{FieldName}
 use Rattle.script.specs.declared.commands.Script.{Script}
-use Rattle.transcripts.specs.Runs.{IsTranscript, symbols_of}
+use Rattle.transcripts.specs.Transcripts.{IsTranscript, symbols_of}
 
 module _ (text : List ℕ) (read : Option Script) (script : Script) (is : read ≡ Some script) where
   pub prints : IfSome read (λ s. Prints (script_value s) text) → Prints (script_value script) text

@@ -11,8 +11,10 @@ use Rattle.vault_laws.specs.Laws.{VaultLaw}
 use Rattle.vault_runs.specs.Entries.{asked, calls, replies, reply}
 use Rattle.vault_runs.specs.declared.Entry.{Entry}
 use Rattle.transcripts.specs.Lengths.{IsShelfFor}
-use Rattle.transcripts.specs.Requests.{calls_of, lines, numbered_call, numbered_reply}
-use Rattle.transcripts.specs.Runs.{IsTranscript, called, came_to}
+use Rattle.transcripts.specs.Calls.{calls_of, numbered_call}
+use Rattle.transcripts.specs.Lines.{lines, numbered_reply}
+use Rattle.transcripts.specs.Entries.{called, came_to}
+use Rattle.transcripts.specs.Transcripts.{IsTranscript}
 
 pub transcribed : (Y : Symbols) {T : Type 0} (value : T → Y.Symbol) (s : ScriptValue) (shelf after : Meaning T) (size : Option ℕ) (asked_for made : List (Entry T)) (bytes : List ℕ)
     → IsShelfFor s.m shelf → map (λ e. numbered_call Y (called Y value e)) asked_for ≡ calls_of Y s.m s.commands

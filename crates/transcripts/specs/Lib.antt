@@ -1,3 +1,5 @@
+pub mod Calls
+pub mod Entries
 pub mod Lengths
-pub mod Requests
-pub mod Runs
+pub mod Lines
+pub mod Transcripts

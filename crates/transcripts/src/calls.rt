@@ -7,8 +7,9 @@ ghost use Rattle.script.specs.Scripts.{IsCommand, command_value};
 ghost use Rattle.script.specs.Transcripts.{answered as answered_of, line_printed, numbers_of, status};
 ghost use Rattle.vault_laws.specs.Agreement.{told_call};
 ghost use Rattle.vault_runs.specs.Entries.{asked};
-ghost use Rattle.transcripts.specs.Requests.{answered, call_of, calls_of, command_line, command_lines, lines as lines_of, numbered_call, shown as shown_of};
-ghost use Rattle.transcripts.specs.Runs.{called, came_to};
+ghost use Rattle.transcripts.specs.Calls.{call_of, calls_of, numbered_call};
+ghost use Rattle.transcripts.specs.Lines.{answered, command_line, command_lines, lines as lines_of, shown as shown_of};
+ghost use Rattle.transcripts.specs.Entries.{called, came_to};
 
 use crate::lengths::Lengths;
 use field::Sums;

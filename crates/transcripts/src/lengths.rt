@@ -1,7 +1,7 @@
 // How much a cabinet takes.
 ghost use Rattle.std.specs.Prelude.{◌≡◌, ◌*◌, ◌≤◌, IfOk, length, map};
 ghost use Rattle.transcripts.specs.Lengths.{AreLengths, boxes_for, file_for, half_for, rows_for};
-ghost use Rattle.transcripts.specs.Requests.{zeros as zeros_of};
+ghost use Rattle.transcripts.specs.Calls.{zeros as zeros_of};
 
 use boxes::Size;
 use field::Sums;

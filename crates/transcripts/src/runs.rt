@@ -4,7 +4,7 @@ ghost use Rattle.std.specs.List.{AllByRecursion};
 ghost use Rattle.std.specs.String.{string_bytes};
 ghost use Rattle.script.specs.Scripts.{IsCommand, Prints, ScriptValue, command_value, line, script_value};
 ghost use Rattle.transcripts.specs.Lengths.{IsShelfFor};
-ghost use Rattle.transcripts.specs.Runs.{IsTranscript, symbols_of};
+ghost use Rattle.transcripts.specs.Transcripts.{IsTranscript, symbols_of};
 
 use crate::calls::{entries, lines};
 use crate::lengths::Lengths;

@@ -1,7 +1,7 @@
 use Rattle.std.proofs.Common.{◌≡◌, map, take}
 use Rattle.script.specs.Scripts.{command_value}
-use Rattle.transcripts.specs.Requests.{calls_of, numbered_call}
-use Rattle.transcripts.specs.Runs.{called}
+use Rattle.transcripts.specs.Calls.{calls_of, numbered_call}
+use Rattle.transcripts.specs.Entries.{called}
 use Rattle.transcripts.proofs.calls.entries.Given as goal
 
 abbrev pub invariant-loop-command : goal.invariant-loop-command

@@ -2,7 +2,7 @@ use Rattle.std.proofs.Common.{length, rules}
 use Rattle.std.proofs.lemmas.List.{length_push}
 use Rattle.std.proofs.lemmas.Slice.Zip.{zip_end, zip_turn}
 use Rattle.script.specs.Scripts.{command_value}
-use Rattle.transcripts.specs.Runs.{came_to}
+use Rattle.transcripts.specs.Entries.{came_to}
 use Rattle.transcripts.proofs.Printing.{over, turn}
 use Rattle.transcripts.proofs.calls.write_commands.Goals as goal
 

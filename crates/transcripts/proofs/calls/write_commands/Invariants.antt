@@ -1,8 +1,8 @@
 use Rattle.std.proofs.Common.{◌≡◌, ◌++◌, drop, length, map}
 use Rattle.std.specs.String.{string_bytes}
 use Rattle.script.specs.Scripts.{command_value}
-use Rattle.transcripts.specs.Requests.{command_lines}
-use Rattle.transcripts.specs.Runs.{came_to}
+use Rattle.transcripts.specs.Lines.{command_lines}
+use Rattle.transcripts.specs.Entries.{came_to}
 use Rattle.transcripts.proofs.calls.write_commands.Given as goal
 
 -- what is written, with the lines that are left, is all of it

@@ -3,8 +3,8 @@ use Rattle.std.proofs.lemmas.Result.{IfOk-weaker}
 use Rattle.script.specs.Scripts.{command_value, script_value}
 use Rattle.vault_laws.specs.Laws.{VaultLaw}
 use Rattle.vault_runs.specs.Entries.{calls, replies}
-use Rattle.transcripts.specs.Requests.{lines}
-use Rattle.transcripts.specs.Runs.{came_to}
+use Rattle.transcripts.specs.Lines.{lines}
+use Rattle.transcripts.specs.Entries.{came_to}
 use Rattle.transcripts.proofs.Lists.{written}
 use Rattle.transcripts.proofs.Transcribed.{transcribed}
 use Rattle.transcripts.proofs.runs.run.Goals as goal

@@ -9,12 +9,9 @@ use Rattle.ledger.specs.Ledgers.{LedgerCall, fresh, replies}
 use Rattle.script.specs.Scripts.{ScriptValue}
 use Rattle.script.specs.declared.commands.FieldName.{FieldName}
 use Rattle.script.specs.declared.commands.FieldName.TheVariants.{Five, Four, Bytes, Words}
-use Rattle.vault_calls.specs.Calls.{Reply}
-use Rattle.vault_laws.specs.Agreement.{told_call, told_reply}
-use Rattle.vault_runs.specs.Entries.{asked, reply}
-use Rattle.vault_runs.specs.declared.Entry.{Entry}
 use Rattle.transcripts.specs.Lengths.{boxes_for, rows_for}
-use Rattle.transcripts.specs.Requests.{calls_of, lines, numbered_call, numbered_reply}
+use Rattle.transcripts.specs.Calls.{calls_of, numbered_call}
+use Rattle.transcripts.specs.Lines.{lines, numbered_reply}
 
 -- a field's symbols
 abbrev pub symbols_of : FieldName → Symbols
@@ -30,11 +27,3 @@ pub record IsTranscript (Y : Symbols) (s : ScriptValue) (bytes : List ℕ) : Typ
   pub made : map (numbered_call Y) calls ≡ calls_of Y s.m s.commands
   -- the lines of what a new ledger answers to them
   pub printed : bytes ≡ lines s.commands (map (numbered_reply Y) (replies Y (fresh Y (boxes_for s.m) (rows_for s.m)) calls))
-
--- an entry of a program, with symbols by their numbers: its call, and what this came to
-module _ (Y : Symbols) {T : Type 0} (value : T → Y.Symbol) where
-  abbrev pub called : Entry T → LedgerCall Y
-  called e = told_call Y value (asked e.call)
-
-  abbrev pub came_to : Entry T → Reply ℕ
-  came_to e = numbered_reply Y (told_reply Y value (reply e))
