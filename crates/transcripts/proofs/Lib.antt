@@ -1,3 +1,4 @@
+pub mod Determined
 pub mod Lists
 pub mod Printing
 pub mod Read

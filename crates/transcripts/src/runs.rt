@@ -1,5 +1,5 @@
 // Scripts that are run on a new vault.
-ghost use Rattle.std.specs.Prelude.{◌≡◌, [], ◌∷◌, IfOk, codes, map};
+ghost use Rattle.std.specs.Prelude.{◌≡◌, ℕ, List, [], ◌∷◌, IfOk, codes};
 ghost use Rattle.std.specs.List.{AllByRecursion};
 ghost use Rattle.std.specs.String.{string_bytes};
 ghost use Rattle.script.specs.Scripts.{IsCommand, Prints, ScriptValue, command_value, line, script_value};
@@ -9,7 +9,7 @@ ghost use Rattle.transcripts.specs.Transcripts.{IsTranscript, symbols_of};
 use crate::calls::{entries, lines};
 use crate::lengths::Lengths;
 use byte_field::Byte;
-use field::Quotients;
+use field::{Quotients, Sums};
 use flat::Flat;
 use four::Four;
 use image::Image;
@@ -91,3 +91,8 @@ pub fn transcript(alloc: Global, text: &[u8]) -> Result<String, AllocError>
         FieldName::Words => run_joined(alloc, &script),
     }
 }
+
+// A theorem of every field: a script has one transcript at most.
+pub fn transcripts_stand<F: Sums>()
+    ensures { (s : ScriptValue) (a b : List ℕ) → IsTranscript F.symbols s a → IsTranscript F.symbols s b → a ≡ b }
+{}
