@@ -92,7 +92,9 @@ pub fn transcript(alloc: Global, text: &[u8]) -> Result<String, AllocError>
     }
 }
 
-// A theorem of every field: a script has one transcript at most.
+// A theorem of every field: a script, whose symbols are the field's, has one
+// transcript, and no two.
 pub fn transcripts_stand<F: Sums>()
-    ensures { (s : ScriptValue) (a b : List ℕ) → IsTranscript F.symbols s a → IsTranscript F.symbols s b → a ≡ b }
+    ensures some { (s : ScriptValue) → AllByRecursion (IsCommand F.symbols.size) s.commands → (bytes : List ℕ) × IsTranscript F.symbols s bytes }
+    ensures only { (s : ScriptValue) (a b : List ℕ) → IsTranscript F.symbols s a → IsTranscript F.symbols s b → a ≡ b }
 {}
