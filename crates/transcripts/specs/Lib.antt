@@ -1,0 +1,5 @@
+pub mod Calls
+pub mod Entries
+pub mod Lengths
+pub mod Lines
+pub mod Transcripts
