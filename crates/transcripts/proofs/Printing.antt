@@ -15,10 +15,14 @@ module _ {C E : Type 0} (value : C → CommandValue) (came_to : E → Reply ℕ)
   abbrev left : ℕ → List ℕ
   left i = command_lines (map value (drop i cs)) (map came_to (drop i es))
 
+  -- all of them, behind what was written before
+  abbrev whole : List ℕ → List ℕ
+  whole before = before ++ command_lines (map value cs) (map came_to es)
+
   -- one line more: i of them were written, and then j
-  pub turn : (i j : ℕ) (c : C) (e : E) (out next whole : List ℕ) → j ≡ i + 1 → i < length cs → i < length es → c ≡ get_or cs i c → e ≡ get_or es i e
-      → out ++ left i ≡ whole → next ≡ out ++ command_line (value c) (came_to e) → next ++ left j ≡ whole
-  turn i j c e out next whole is_j in_cs in_es is_c is_e so_far written =
+  pub turn : (i j : ℕ) (c : C) (e : E) (before out next : List ℕ) → j ≡ i + 1 → i < length cs → i < length es → c ≡ get_or cs i c → e ≡ get_or es i e
+      → out ++ left i ≡ whole before → next ≡ out ++ command_line (value c) (came_to e) → next ++ left j ≡ whole before
+  turn i j c e before out next is_j in_cs in_es is_c is_e so_far written =
       let cs_more : drop i cs ≡ c ∷ drop j cs = drop_more cs i c in_cs ∙ ap₂ (λ x k. x ∷ drop k cs) (sym is_c) (sym is_j) in
       let es_more : drop i es ≡ e ∷ drop j es = drop_more es i e in_es ∙ ap₂ (λ x k. x ∷ drop k es) (sym is_e) (sym is_j) in
       ap (λ bytes. bytes ++ left j) written
@@ -32,5 +36,5 @@ module _ {C E : Type 0} (value : C → CommandValue) (came_to : E → Reply ℕ)
     | inr l ↦ ap (λ ys. command_lines (map value (drop i cs)) (map came_to ys)) (drop_all i es (omega (arith, e, l))) ∙ no_replies (map value (drop i cs))
   ]
 
-  pub over : (i : ℕ) (out whole : List ℕ) → i ≡ min (length cs) (length es) → out ++ left i ≡ whole → out ≡ whole
-  over i out whole e so_far = sym (append-nil out) ∙ ap (λ bytes. out ++ bytes) (sym (none_left i e)) ∙ so_far
+  pub over : (i : ℕ) (before out : List ℕ) → i ≡ min (length cs) (length es) → out ++ left i ≡ whole before → out ≡ whole before
+  over i before out e so_far = sym (append-nil out) ∙ ap (λ bytes. out ++ bytes) (sym (none_left i e)) ∙ so_far

@@ -1,5 +1,6 @@
 use Rattle.std.proofs.Common.{map, rules, subst, ap₂, ◌∙◌}
 use Rattle.std.proofs.lemmas.Result.{IfOk-weaker}
+use Rattle.std.specs.String.{string_bytes}
 use Rattle.script.specs.Scripts.{command_value, script_value}
 use Rattle.vault_laws.specs.Laws.{VaultLaw}
 use Rattle.vault_runs.specs.Entries.{calls, replies}
@@ -19,6 +20,6 @@ returns g c =
     let whole = written _ made _ c.deref-3.result.now c.deref-3.ensures.value (c.run_new.auto.entries ∙ c.deref_mut.ensures.len) in
     IfOk-weaker c.lines.result _ _
     (λ out printed.
-    transcribed f.symbols f.value (script_value c.args.script.now) shelf after c.run_new.result.size c.in_ok-entries.entries.items made _ c.requires.shelf (search rules) law
+    transcribed f.symbols f.value (script_value c.args.script.now) shelf after c.run_new.result.size c.in_ok-entries.entries.items made (string_bytes out) c.requires.shelf (search rules) law
     (printed ∙ ap₂ (λ commands entries. lines (map command_value commands) (map (came_to f.symbols f.value) entries)) c.deref-2.ensures.value whole))
     c.lines.ensures
