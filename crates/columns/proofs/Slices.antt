@@ -3,8 +3,10 @@ use Rattle.std.proofs.Common.{◌≡◌, ℕ, ◌+◌, ◌-◌, ◌*◌, ◌^◌
 use Rattle.std.proofs.lemmas.List.{take-map, drop-map, map-set, length-map, get_or-map, get_or-take, get_or-drop, get_or_append_left, get_or-append-add, map-append, length-append}
 use Rattle.std.proofs.lemmas.Bool.{cases_eq}
 use Rattle.field.specs.Symbols.{Symbols}
+use Rattle.code.specs.Blocks.{◌∸◌}
 use Rattle.code.specs.Contents.{at, parts}
 use Rattle.code.specs.Rows.{lower, pair_of}
+use Rattle.columns.specs.Sides.{less}
 use Rattle.code.proofs.Pairing.{row_cases, pair_lower, pair_upper, pair_below}
 
 module _ (Y : Symbols) {S : Type 0} (value : S → Y.Symbol) where
@@ -114,3 +116,13 @@ module _ (Y : Symbols) {S : Type 0} (value : S → Y.Symbol) where
       ];
       left = λ a l. at_else a (λ z. omega arith) ∙ w.left a (omega arith);
     }
+
+    -- something is taken off both
+    pub pairwise_less : (n : ℕ) → n ≡ j + 1 → (E : ℕ → Y.Symbol) (before : List S) (a b : S) → a ≡ slice_index_or xs low a → b ≡ slice_index_or (slice_set xs low s) high b
+        → value s ≡ ◌∸◌ Y.ring (value a) (E low) → value t ≡ ◌∸◌ Y.ring (value b) (E high)
+        → Pairwise k (less Y (at Y value before) E) before j xs → Pairwise k (less Y (at Y value before) E) before n both
+    pairwise_less n next E before a b ea eb es et w =
+        pairwise_more n next (less Y (at Y value before) E) before
+        (es ∙ ap (λ z. ◌∸◌ Y.ring z (E low)) (read xs low a (omega arith) ea ∙ w.left low (omega (arith, ap (pair_of k) el ∙ pair_lower k j))))
+        (et ∙ ap (λ z. ◌∸◌ Y.ring z (E high)) (read (slice_set xs low s) high b (simp length-set h) eb ∙ written_else xs low high s (λ e. omega arith) ∙ w.left high (omega (arith, ap (pair_of k) eh ∙ pair_upper k j))))
+        w
