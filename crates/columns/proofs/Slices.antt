@@ -117,12 +117,29 @@ module _ (Y : Symbols) {S : Type 0} (value : S → Y.Symbol) where
       left = λ a l. at_else a (λ z. omega arith) ∙ w.left a (omega arith);
     }
 
-    -- something is taken off both
-    pub pairwise_less : (n : ℕ) → n ≡ j + 1 → (E : ℕ → Y.Symbol) (before : List S) (a b : S) → a ≡ slice_index_or xs low a → b ≡ slice_index_or (slice_set xs low s) high b
-        → value s ≡ ◌∸◌ Y.ring (value a) (E low) → value t ≡ ◌∸◌ Y.ring (value b) (E high)
-        → Pairwise k (less Y (at Y value before) E) before j xs → Pairwise k (less Y (at Y value before) E) before n both
-    pairwise_less n next E before a b ea eb es et w =
-        pairwise_more n next (less Y (at Y value before) E) before
-        (es ∙ ap (λ z. ◌∸◌ Y.ring z (E low)) (read xs low a (omega arith) ea ∙ w.left low (omega (arith, ap (pair_of k) el ∙ pair_lower k j))))
-        (et ∙ ap (λ z. ◌∸◌ Y.ring z (E high)) (read (slice_set xs low s) high b (simp length-set h) eb ∙ written_else xs low high s (λ e. omega arith) ∙ w.left high (omega (arith, ap (pair_of k) eh ∙ pair_upper k j))))
-        w
+  -- something is taken off both
+  module _ (k j low high : ℕ) (el : low ≡ lower k j) (eh : high ≡ lower k j + 2 ^ k) (E : ℕ → Y.Symbol) (before xs ys : List S)
+      (es : at Y value ys low ≡ ◌∸◌ Y.ring (at Y value xs low) (E low)) (et : at Y value ys high ≡ ◌∸◌ Y.ring (at Y value xs high) (E high))
+      (rest : (a : ℕ) → a ≢ low → a ≢ high → at Y value ys a ≡ at Y value xs a) where
+    rest_else : (a : ℕ) → (pair_of k a ≡ j → ⊥) → at Y value ys a ≡ at Y value xs a
+    rest_else a n = rest a (λ e. n (ap (pair_of k) (e ∙ el) ∙ pair_lower k j)) (λ e. n (ap (pair_of k) (e ∙ eh) ∙ pair_upper k j))
+
+    abbrev Less : ℕ → List S → Type 0
+    Less = Pairwise k (less Y (at Y value before) E) before
+
+    pub pairwise_less : (n : ℕ) → n ≡ j + 1 → Less j xs → Less n ys
+    pairwise_less n next w =
+        let low_left : at Y value ys low ≡ less Y (at Y value before) E low =
+        es ∙ ap (λ z. ◌∸◌ Y.ring z (E low)) (w.left low (omega (arith, ap (pair_of k) el ∙ pair_lower k j))) in
+        let high_left : at Y value ys high ≡ less Y (at Y value before) E high =
+        et ∙ ap (λ z. ◌∸◌ Y.ring z (E high)) (w.left high (omega (arith, ap (pair_of k) eh ∙ pair_upper k j))) in
+        record {
+          done = λ a l b. elim (cases_eq (pair_of k a) j) [
+            | inl z ↦ elim (row_cases k j a z) [
+              | inl u ↦ subst (λ n. at Y value ys n ≡ less Y (at Y value before) E n) (el ∙ sym u) low_left
+              | inr u ↦ subst (λ n. at Y value ys n ≡ less Y (at Y value before) E n) (eh ∙ sym u) high_left
+            ]
+            | inr z ↦ rest_else a z ∙ w.done a (omega arith) b
+          ];
+          left = λ a l. rest_else a (λ z. omega arith) ∙ w.left a (omega arith);
+        }

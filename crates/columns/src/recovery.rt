@@ -1,6 +1,6 @@
 // A lost column from the halves of all other boxes.
 ghost use Rattle.std.specs.Prelude.{◌≡◌, ℕ, suc, ◌+◌, ◌-◌, ◌*◌, ◌%◌, ◌^◌, ◌<◌, ◌≤◌, true, false, [], ◌∷◌, length, if◌then◌else◌, MatchResult, ◌≢◌};
-ghost use Rattle.code.specs.Blocks.{block as blocked};
+ghost use Rattle.code.specs.Blocks.{◌∸◌, block as blocked};
 ghost use Rattle.code.specs.Codes.{full, Given, image, shift};
 ghost use Rattle.code.specs.Contents.{Holds, at, parts};
 ghost use Rattle.code.specs.Recovery.{half_image, recover as recovered_pair, recovered, seat as seated, taken, taken_image};
@@ -37,6 +37,18 @@ fn share<F: Sums>(along: &Digit, block: Block<F>, half: &[F], low: usize, high: 
     }
 }
 
+// Takes two numbers off two rows.
+fn subtract_pair<F: Sums>(column: &mut [F], low: usize, high: usize, numbers: (F, F))
+    requires rising { low < high }
+    requires inside { high < length column.old }
+    ensures low { at F.symbols F.value column.new low ≡ ◌∸◌ F.symbols.ring (at F.symbols F.value column.old low) (F.value numbers.0) }
+    ensures high { at F.symbols F.value column.new high ≡ ◌∸◌ F.symbols.ring (at F.symbols F.value column.old high) (F.value numbers.1) }
+    ensures rest { (a : ℕ) → a ≢ low → a ≢ high → at F.symbols F.value column.new a ≡ at F.symbols F.value column.old a }
+{
+    column[low] = column[low].minus(numbers.0);
+    column[high] = column[high].minus(numbers.1);
+}
+
 // Takes off the half of a box of the lost box's direction, and its multiple off
 // the upper rows.
 fn subtract_multiple<F: Sums>(along: &Digit, eigenvalue: F, half: &[F], column: &mut [F])
@@ -45,8 +57,7 @@ fn subtract_multiple<F: Sums>(along: &Digit, eigenvalue: F, half: &[F], column: 
     ensures { Holds F.symbols F.value (2 ^ along.now.digits) column.new (less F.symbols (at F.symbols F.value column.old) (sides along.now.place (at F.symbols F.value half.now) (λ j. F.symbols.ring.times (F.value eigenvalue) (at F.symbols F.value half.now j)))) }
 {
     for (j, (low, high)) in along.pairs().enumerate() {
-        column[low] = column[low].minus(half[j]);
-        column[high] = column[high].minus(eigenvalue.product(half[j]));
+        subtract_pair(column, low, high, (half[j], eigenvalue.product(half[j])));
     }
 }
 
@@ -124,9 +135,7 @@ impl<'a, F: Sums> Halves<'a, F> {
         let across = self.cabinet.size.digit(b);
         let block = self.cabinet.block(b);
         for (low, high) in across.pairs() {
-            let (s, t) = share(&along, block, half, low, high);
-            column[low] = column[low].minus(s);
-            column[high] = column[high].minus(t);
+            subtract_pair(column, low, high, share(&along, block, half, low, high));
         }
     }
 

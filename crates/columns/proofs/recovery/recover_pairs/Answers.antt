@@ -1,4 +1,4 @@
-use Rattle.std.proofs.Common.{◌≡◌, ◌<◌, false, true, length, sym, ap, ◌∙◌, arith}
+use Rattle.std.proofs.Common.{◌<◌, length, sym, ap, ◌∙◌, arith}
 use Rattle.code.specs.Contents.{at}
 use Rattle.code.specs.Recovery.{recover}
 use Rattle.code.specs.Rows.{pair_of}

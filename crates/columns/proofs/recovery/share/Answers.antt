@@ -1,7 +1,6 @@
-use Rattle.std.proofs.Common.{◌≡◌, ◌-◌, ◌^◌, ◌<◌, Bool, true, false, if◌then◌else◌, sym, ap, ◌∙◌, arith}
+use Rattle.std.proofs.Common.{◌≡◌, Bool, true, false, if◌then◌else◌, sym, ap, ◌∙◌, arith}
 use Rattle.code.specs.Blocks.{block}
 use Rattle.code.specs.Contents.{at}
-use Rattle.code.specs.Rows.{odd, digit, pair_of}
 use Rattle.code.proofs.Pairing.{pair_below}
 use Rattle.columns.proofs.Slices.{read}
 use Rattle.columns.proofs.recovery.share.Goals as goal

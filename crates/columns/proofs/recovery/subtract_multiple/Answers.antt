@@ -18,22 +18,20 @@ loop-j-preserved g c =
     let j = c.loop-j.j-iterator.iter.next in
     let low = c.in-Some.low in
     let high = c.in-Some.high in
-    let column = c.loop-j.column in
     let inv = c.loop-j.invariant in
     let steps = c.in-Some.ensures.steps in
     let rows = rows_named inv.0 inv.1 steps.0.1.0 in
     let turn : c.in-Some.j ≡ j = steps.1 ∙ inv.2 in
     let inside : c.in-Some.j < length c.args.half.now = omega (arith, c.requires.pairs, rows.pair, turn) in
-    let hs : high < length column = omega (arith, rows.bound) in (
+    let off = c.subtract_pair.ensures in (
       ap (λ d. d.digits) steps.0.0 ∙ inv.0,
       ap (λ d. d.place) steps.0.0 ∙ inv.1,
       steps.2 ∙ ap (λ n. n + 1) inv.2 ∙ sym steps.0.1.1,
-      pairwise_less Y v k j low high rows.is_low rows.is_high rows.rising column c.minus.result c.minus-in-loop-j.result hs _ steps.0.1.1 (sides k half multiple) c.args.column.now c.index-column-low.result c.index-column-high.result c.index-column-low.is c.index-column-high.is
-          (c.minus.ensures
-          ∙ ap (◌∸◌ R (v c.index-column-low.result)) (read Y v c.args.half.now c.in-Some.j _ inside c.index-half-j.is ∙ ap half turn ∙ sym (sides_low k half multiple j low rows.is_low)))
-          (c.minus-in-loop-j.ensures
-          ∙ ap (◌∸◌ R (v c.index-column-high.result)) (c.product.ensures ∙ ap (R.times (v c.args.eigenvalue)) (read Y v c.args.half.now c.in-Some.j _ inside c.index-half-j-in-loop-j.is ∙ ap half turn) ∙ sym (sides_high k half multiple j high rows.is_high)))
-          inv.3,
+      pairwise_less Y v k j low high rows.is_low rows.is_high (sides k half multiple) c.args.column.now c.loop-j.column _
+          (off.low ∙ ap (◌∸◌ R (at Y v c.loop-j.column low)) (read Y v c.args.half.now c.in-Some.j _ inside c.index-half-j.is ∙ ap half turn ∙ sym (sides_low k half multiple j low rows.is_low)))
+          (off.high
+          ∙ ap (◌∸◌ R (at Y v c.loop-j.column high)) (c.product.ensures ∙ ap (R.times (v c.args.eigenvalue)) (read Y v c.args.half.now c.in-Some.j _ inside c.index-half-j-in-loop-j.is ∙ ap half turn) ∙ sym (sides_high k half multiple j high rows.is_high)))
+          off.rest _ steps.0.1.1 inv.3,
     )
 
 pub returns : goal.returns

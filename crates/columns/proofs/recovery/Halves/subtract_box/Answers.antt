@@ -29,11 +29,11 @@ returns-then-digit-along g c =
     let is_e = c.eigenvalue-eigenvalue.ensures ∙ (λ i. eigenvalue R (c.kind_at.ensures i) (made.is_kind i) (made.first i) (made.second i)) in
     let same : shift code b ≡ shift code x = sym c.digit.ensures.place ∙ c.if-digit-along.true ∙ c.digit-along.ensures.place in
     λ a l.
-        c.subtract_multiple.ensures a (subst (λ n. a < 2 ^ n) (sym c.digit-along.ensures.digits) l)
-        ∙ ap (◌∸◌ R (at Y v c.args.column.now a))
-        ((λ i. sides (c.digit-along.ensures.place i) half (λ j. R.times e (half j)) a)
-        ∙ sides_same k half (λ j. R.times e (half j)) m sent (half_image code x b sent) (shift_below code x size.some) numbers
-        (λ j h. (λ i. R.times (is_e i) (numbers j h i)) ∙ sym (if_same (shift code b) (shift code x) same _ _)) a l)
+    c.subtract_multiple.ensures a (subst (λ n. a < 2 ^ n) (sym c.digit-along.ensures.digits) l)
+    ∙ ap (◌∸◌ R (at Y v c.args.column.now a))
+    ((λ i. sides (c.digit-along.ensures.place i) half (λ j. R.times e (half j)) a)
+    ∙ sides_same k half (λ j. R.times e (half j)) m sent (half_image code x b sent) (shift_below code x size.some) numbers
+    (λ j h. (λ i. R.times (is_e i) (numbers j h i)) ∙ sym (if_same (shift code b) (shift code x) same _ _)) a l)
 
 pub returns-else-digit-along : goal.returns-else-digit-along
 returns-else-digit-along g c =
@@ -50,7 +50,7 @@ returns-else-digit-along g c =
     let numbers = c.half-half.ensures.numbers in
     let apart : shift code b ≢ shift code x = λ e. c.if-digit-along.false (c.digit.ensures.place ∙ e ∙ sym c.digit-along.ensures.place) in
     λ a l.
-        c.subtract_image.ensures a l
-        ∙ ap (◌∸◌ Y.ring (at Y v c.args.column.now a))
-        (sides_same k half (λ j. image code b (λ a. half (pair_of k a)) (lower k j)) m sent (half_image code x b sent) (shift_below code x size.some) numbers
-        (λ j h. sym (if_other (shift code b) (shift code x) apart _ _) ∙ half_image_same code x b half sent (shift_below code x size.some) (shift_below code b size.some) numbers j h) a l)
+    c.subtract_image.ensures a l
+    ∙ ap (◌∸◌ Y.ring (at Y v c.args.column.now a))
+    (sides_same k half (λ j. image code b (λ a. half (pair_of k a)) (lower k j)) m sent (half_image code x b sent) (shift_below code x size.some) numbers
+    (λ j h. sym (if_other (shift code b) (shift code x) apart _ _) ∙ half_image_same code x b half sent (shift_below code x size.some) (shift_below code b size.some) numbers j h) a l)

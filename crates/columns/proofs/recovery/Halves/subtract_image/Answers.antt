@@ -1,4 +1,4 @@
-use Rattle.std.proofs.Common.{◌<◌, false, true, if◌then◌else◌, length, ap, ◌∙◌, arith, rules}
+use Rattle.std.proofs.Common.{false, true, if◌then◌else◌, ap, ◌∙◌, arith}
 use Rattle.code.specs.Blocks.{block, ◌∸◌}
 use Rattle.code.specs.Codes.{full, shift}
 use Rattle.code.specs.Contents.{at}
@@ -9,20 +9,6 @@ use Rattle.columns.specs.Sides.{sides}
 use Rattle.columns.proofs.Sides.{across, across_low, across_high}
 use Rattle.columns.proofs.Slices.{pairwise_less, pairwise_all}
 use Rattle.columns.proofs.recovery.Halves.subtract_image.Goals as goal
-
-pub offset_bounds-column-low : goal.offset_bounds-column-low
-offset_bounds-column-low g c =
-    let inv = c.loop-low.invariant in
-    let rows = rows_named inv.0 inv.1 c.in-Some.ensures.steps.1.0 in
-    let h : c.in-Some.low < length c.loop-low.column = omega (arith, rows.rising, rows.bound, c.requires.rows, c.loop-low.auto.column) in
-    search (rules, h)
-
-pub offset_bounds-column-low-in-loop-low : goal.offset_bounds-column-low-in-loop-low
-offset_bounds-column-low-in-loop-low g c =
-    let inv = c.loop-low.invariant in
-    let rows = rows_named inv.0 inv.1 c.in-Some.ensures.steps.1.0 in
-    let h : c.in-Some.low < length c.loop-low.column = omega (arith, rows.rising, rows.bound, c.requires.rows, c.loop-low.auto.column) in
-    search rules
 
 pub loop-low-preserved : goal.loop-low-preserved
 loop-low-preserved g c =
@@ -37,28 +23,27 @@ loop-low-preserved g c =
     let j = c.loop-low.low-iterator.next in
     let low = c.in-Some.low in
     let high = c.in-Some.high in
-    let column = c.loop-low.column in
     let made = c.block-block.result in
     let block_is = c.block-block.ensures in
     let place = c.digit-along.ensures.place in
     let inv = c.loop-low.invariant in
     let steps = c.in-Some.ensures.steps in
     let rows = rows_named inv.0 inv.1 steps.1.0 in
-    let hs : high < length column = omega (arith, rows.bound) in (
+    let off = c.subtract_pair.ensures in (
       ap (λ d. d.digits) steps.0 ∙ inv.0,
       ap (λ d. d.place) steps.0 ∙ inv.1,
-      pairwise_less Y v (shift code b) j low high rows.is_low rows.is_high rows.rising column c.minus.result c.minus-in-loop-low.result hs _ steps.1.1 (sides k half (across code x b c.requires.across half)) c.args.column.now c.index-column-low.result c.index-column-high.result c.index-column-low.is c.index-column-high.is
-          (c.minus.ensures
-          ∙ ap (◌∸◌ R (v c.index-column-low.result))
+      pairwise_less Y v (shift code b) j low high rows.is_low rows.is_high (sides k half (across code x b c.requires.across half)) c.args.column.now c.loop-low.column _
+          (off.low
+          ∙ ap (◌∸◌ R (at Y v c.loop-low.column low))
           (c.share.ensures.lower
           ∙ (λ i. if odd (digit (place i) low) then block R made.kind (v made.p) (v made.q) (half (pair_of (place i) low)) (half (pair_of (place i) high)) false else half (pair_of (place i) low))
           ∙ across_low code x b c.requires.across half j low high rows.is_low rows.is_high made.kind (v made.p) (v made.q) block_is.is_kind block_is.first block_is.second))
-          (c.minus-in-loop-low.ensures
-          ∙ ap (◌∸◌ R (v c.index-column-high.result))
+          (off.high
+          ∙ ap (◌∸◌ R (at Y v c.loop-low.column high))
           (c.share.ensures.upper
           ∙ (λ i. if odd (digit (place i) low) then block R made.kind (v made.p) (v made.q) (half (pair_of (place i) low)) (half (pair_of (place i) high)) true else half (pair_of (place i) high))
           ∙ across_high code x b c.requires.across half j low high rows.is_low rows.is_high made.kind (v made.p) (v made.q) block_is.is_kind block_is.first block_is.second))
-          inv.2,
+          off.rest _ steps.1.1 inv.2,
     )
 
 pub returns : goal.returns
