@@ -244,17 +244,17 @@ pub fn edges() -> Vec<Vec<u8>> {
         }
         texts.push(draft.text());
     }
-    // of 16382 to 16387 bytes, by files of one and of three digits
+    // of 16382 to 16387 bytes
     for surplus in 0..6 {
         let mut draft = Draft::new(FIELDS[2], 6);
         for _ in 0..3 {
             draft.command('P', &[100; 1152]);
         }
-        let left = (16382 + surplus) - (draft.text().len() + 2);
-        let ones = (4 - left % 4) % 4;
-        let mut numbers = vec![100; (left + 2 * ones) / 4];
-        let first = numbers.len() - ones;
-        numbers[first..].fill(1);
+        // the line to come, its line feed, and a letter
+        let left = 16382 + surplus - (draft.text().len() + 1);
+        let mut numbers = vec![100; left.div_ceil(4)];
+        let too_long = 4 * numbers.len() - left;
+        numbers[..too_long].fill(10);
         draft.command('P', &numbers);
         texts.push(draft.text());
     }
