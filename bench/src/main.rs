@@ -7,11 +7,25 @@ mod scripts;
 mod tables;
 mod verified;
 
-use measure::Effort;
+use measure::{least, median, Effort};
 use scripts::FIELDS;
 use std::process::exit;
 use std::time::Instant;
 use verified::Verified;
+
+/// The median of seven measurements, for a machine that does nothing else.
+const MEDIANS: Effort = Effort {
+    measurements: 7,
+    seconds: 0.06,
+    counts: median,
+};
+
+/// The least of many short ones, for one that does.
+const LEAST: Effort = Effort {
+    measurements: 100,
+    seconds: 0.001,
+    counts: least,
+};
 
 fn fail(why: &str) -> ! {
     eprintln!("bench: {why}");
@@ -50,30 +64,19 @@ fn profile(side: &str, path: &str, from: &str, times: &str) -> ! {
 fn main() {
     let words: Vec<_> = std::env::args().skip(1).collect();
     let words: Vec<_> = words.iter().map(String::as_str).collect();
-    let quick = match words[..] {
-        [] => false,
-        ["--quick"] => true,
+    let (count, fields, effort) = match words[..] {
+        [] => (6000, &FIELDS[..], MEDIANS),
+        ["--least"] => (6000, &FIELDS[..], LEAST),
+        ["--quick"] => (3000, &FIELDS[2..3], LEAST),
         ["--profile", side, path, from, times] => profile(side, path, from, times),
-        _ => fail("usage: bench/run [--quick | --profile SIDE SCRIPT FROM TIMES]"),
+        _ => fail("usage: bench/run [--quick | --least | --profile SIDE SCRIPT FROM TIMES]"),
     };
     let start = Instant::now();
     let mut verified = Verified::new();
     println!("### Equality\n");
-    equality::compare_all(&mut verified, if quick { 3000 } else { 6000 });
+    equality::compare_all(&mut verified, count);
     println!("\nNo two differ.");
-    let rows = if quick {
-        let effort = Effort {
-            measurements: 3,
-            seconds: 0.02,
-        };
-        measure::measure_all(&mut verified, &FIELDS[2..3], &effort)
-    } else {
-        let effort = Effort {
-            measurements: 7,
-            seconds: 0.06,
-        };
-        measure::measure_all(&mut verified, &FIELDS, &effort)
-    };
+    let rows = measure::measure_all(&mut verified, fields, &effort);
     tables::print(&rows);
     println!(
         "\nThe whole run took {} seconds.",

@@ -116,9 +116,40 @@ impl Row {
     }
 }
 
+/// How often and how long is measured, and which of the times counts.
 pub struct Effort {
     pub measurements: usize,
     pub seconds: f64,
+    pub counts: fn(&[f64]) -> f64,
+}
+
+pub fn median(times: &[f64]) -> f64 {
+    let mut times = times.to_vec();
+    times.sort_by(f64::total_cmp);
+    times[times.len() / 2]
+}
+
+/// Of short measurements, it is that which other work on the machine disturbed
+/// least.
+pub fn least(times: &[f64]) -> f64 {
+    times.iter().copied().fold(f64::INFINITY, f64::min)
+}
+
+/// The times of one side, with no turns and with some.
+#[derive(Default)]
+struct Times {
+    none: Vec<f64>,
+    all: Vec<f64>,
+}
+
+impl Times {
+    fn of_turns(&self, counts: fn(&[f64]) -> f64) -> f64 {
+        counts(&self.all) - counts(&self.none)
+    }
+
+    fn spread(&self) -> f64 {
+        self.all.iter().copied().fold(0.0, f64::max) / least(&self.all)
+    }
 }
 
 /// Both sides' seconds for so many turns of a case, and whether they agree.
@@ -149,11 +180,6 @@ fn turns_for(verified: &mut Verified, case: &Case, seconds: f64) -> usize {
     }
 }
 
-fn median(times: &mut [f64]) -> f64 {
-    times.sort_by(f64::total_cmp);
-    times[times.len() / 2]
-}
-
 fn measure(
     verified: &mut Verified,
     call: Measured,
@@ -163,23 +189,24 @@ fn measure(
 ) -> Row {
     let case = Case::new(call, field, m);
     let turns = turns_for(verified, &case, effort.seconds);
-    let (mut theirs, mut ours) = (vec![], vec![]);
+    let (mut theirs, mut ours) = (Times::default(), Times::default());
     for _ in 0..effort.measurements {
         let none = time_both(verified, &case, 0);
         let all = time_both(verified, &case, turns);
-        theirs.push(all.0 - none.0);
-        ours.push(all.1 - none.1);
+        theirs.none.push(none.0);
+        theirs.all.push(all.0);
+        ours.none.push(none.1);
+        ours.all.push(all.1);
     }
     let calls = (turns * case.calls) as f64;
-    let (verified, independent) = (median(&mut theirs), median(&mut ours));
-    let spread = |times: &[f64]| times[times.len() - 1] / times[0];
+    let each = |times: &Times| times.of_turns(effort.counts) / calls * 1e9;
     Row {
         call,
         field,
         m,
-        verified: verified / calls * 1e9,
-        independent: independent / calls * 1e9,
-        spread: spread(&theirs).max(spread(&ours)),
+        verified: each(&theirs),
+        independent: each(&ours),
+        spread: theirs.spread().max(ours.spread()),
     }
 }
 

@@ -132,20 +132,49 @@ impl<F: Field> Matrix<F> {
     }
 }
 
-/// Runs over the pairs of a column beside those of a target.
-#[inline(always)]
-fn pairs_into<F: Field>(
-    weight: usize,
-    column: &[F],
-    target: &mut [F],
-    mut f: impl FnMut(F, F, &mut F, &mut F),
-) {
-    let runs = column.chunks_exact(2 * weight);
-    for (run, target) in runs.zip(target.chunks_exact_mut(2 * weight)) {
-        let (lower, upper) = run.split_at(weight);
-        let (low, up) = target.split_at_mut(weight);
-        for (((&s, &t), x), y) in lower.iter().zip(upper).zip(low).zip(up) {
-            f(s, t, x, y);
+/// How pairs lie in a column.
+trait Layout {
+    /// Runs over the pairs of a column beside those of a target.
+    fn each<F: Field>(
+        weight: usize,
+        column: &[F],
+        target: &mut [F],
+        f: impl Fn(F, F, &mut F, &mut F),
+    );
+}
+
+/// Partners are neighbours.
+struct Neighbours;
+
+impl Layout for Neighbours {
+    #[inline(always)]
+    fn each<F: Field>(_: usize, column: &[F], target: &mut [F], f: impl Fn(F, F, &mut F, &mut F)) {
+        for (pair, target) in column.chunks_exact(2).zip(target.chunks_exact_mut(2)) {
+            if let ([s, t], [x, y]) = (pair, target) {
+                f(*s, *t, x, y);
+            }
+        }
+    }
+}
+
+/// Runs of lower rows, each before its run of upper rows.
+struct Runs;
+
+impl Layout for Runs {
+    #[inline(always)]
+    fn each<F: Field>(
+        weight: usize,
+        column: &[F],
+        target: &mut [F],
+        f: impl Fn(F, F, &mut F, &mut F),
+    ) {
+        let runs = column.chunks_exact(2 * weight);
+        for (run, target) in runs.zip(target.chunks_exact_mut(2 * weight)) {
+            let (lower, upper) = run.split_at(weight);
+            let (low, up) = target.split_at_mut(weight);
+            for (((&s, &t), x), y) in lower.iter().zip(upper).zip(low).zip(up) {
+                f(s, t, x, y);
+            }
         }
     }
 }
@@ -196,18 +225,28 @@ impl<F: Field> Block<F> {
 
     /// Adds what the block makes of a column's pairs, which are `weight` apart.
     fn add_image_at(&self, weight: usize, column: &[F], sum: &mut [F]) {
+        if weight == 1 {
+            self.add_image_in::<Neighbours>(weight, column, sum);
+        } else {
+            self.add_image_in::<Runs>(weight, column, sum);
+        }
+    }
+
+    /// Apart for each layout, so that the compiler takes each loop by itself.
+    #[inline(never)]
+    fn add_image_in<L: Layout>(&self, weight: usize, column: &[F], sum: &mut [F]) {
         let &Block { kind, p, q, .. } = self;
         let gap = q - p;
         match kind {
-            Lower => pairs_into(weight, column, sum, |s, t, x, y| {
+            Lower => L::each(weight, column, sum, |s, t, x, y| {
                 *x += q * s + gap * t;
                 *y += p * t;
             }),
-            Upper => pairs_into(weight, column, sum, |s, t, x, y| {
+            Upper => L::each(weight, column, sum, |s, t, x, y| {
                 *x += q * s;
                 *y += p * t - gap * s;
             }),
-            Sum => pairs_into(weight, column, sum, |s, t, x, y| {
+            Sum => L::each(weight, column, sum, |s, t, x, y| {
                 *x += p * s;
                 *y += q * t;
             }),
