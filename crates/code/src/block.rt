@@ -19,6 +19,7 @@ impl<F: Sums> Block<F> {
     // and the eigenvalues from it. Where a row is a sum of two products, one is
     // spared: q s + (q - p) t is q (s + t) less p t, which is the other row.
     #[tactic(auto, using(crate::proofs::Products::lower_row, crate::proofs::Products::upper_row))]
+    #[inline(always)]
     fn rows(self, s: F, t: F) -> (F, F)
         ensures lower { F.value result.0 ≡ blocked F.symbols.ring self.kind (F.value self.p) (F.value self.q) (F.value s) (F.value t) false }
         ensures upper { F.value result.1 ≡ blocked F.symbols.ring self.kind (F.value self.p) (F.value self.q) (F.value s) (F.value t) true }
@@ -39,6 +40,7 @@ impl<F: Sums> Block<F> {
 
     // What the block makes of s in the lower and t in the upper row. It is the
     // code's block, since it has the eigenvalues of the construction.
+    #[inline(always)]
     pub fn apply(self, s: F, t: F) -> (F, F)
         ensures lower { F.value result.0 ≡ blocked F.symbols.ring self.kind (F.value self.p) (F.value self.q) (F.value s) (F.value t) false }
         ensures upper { F.value result.1 ≡ blocked F.symbols.ring self.kind (F.value self.p) (F.value self.q) (F.value s) (F.value t) true }

@@ -1,3 +1,4 @@
 pub mod Names
 pub mod Shares
+pub mod Sides
 pub mod Slices

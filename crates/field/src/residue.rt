@@ -66,14 +66,17 @@ impl<R: Residue> Sums for R {
         R::from_number(1)
     }
 
+    #[inline(always)]
     fn sum(self, other: R) -> R {
-        R::from_number((self.to_number() + other.to_number()) % R::SIZE)
+        R::from_number(modulo::sum::<R>(self.to_number(), other.to_number()))
     }
 
+    #[inline(always)]
     fn negative(self) -> R {
-        R::from_number((R::SIZE - self.to_number()) % R::SIZE)
+        R::from_number(modulo::negative::<R>(self.to_number()))
     }
 
+    #[inline(always)]
     fn product(self, other: R) -> R {
         R::from_number(modulo::product::<R>(self.to_number(), other.to_number()))
     }
