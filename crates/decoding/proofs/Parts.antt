@@ -28,7 +28,7 @@ module _ (Y : Symbols) {S : Type 0} (v : S → Y.Symbol) where
   map_mid a k xs ys = search (map-append, take-map, drop-map)
 
   -- the column in place x of a file of columns of n symbols is overwritten
-  pub replaced : (n x s k : ℕ) (xs ys : List S) (C : ℕ → Y.Symbol) → s ≡ x * n → k ≡ n → x * n + n ≤ length xs → length ys ≡ n
+  replaced : (n x s k : ℕ) (xs ys : List S) (C : ℕ → Y.Symbol) → s ≡ x * n → k ≡ n → x * n + n ≤ length xs → length ys ≡ n
       → ((a : ℕ) → a < n → at Y v ys a ≡ C a) → Replaced n x (parts Y v n xs) C (parts Y v n (put_mid s k xs ys))
   replaced n x s k xs ys C es ek fits size holds = record {
     here = λ a l.
@@ -54,7 +54,7 @@ module _ (Y : Symbols) {S : Type 0} (v : S → Y.Symbol) where
     is_start : start ≡ x * n
     is_start = ap (λ r. x * r) er
 
-    pub is_size : size ≡ n
+    is_size : size ≡ n
     is_size = omega (arith, er)
 
     fits : x * n + n ≤ length xs
