@@ -1,5 +1,4 @@
--- A file's columns and parities, and what the halves of all columns but one, and of the parities, say of that one.
--- Assumes nothing.
+-- A file's columns and parities, and what the halves of all columns but one, and of the parities, say of that one. Assumes nothing.
 use Rattle.std.proofs.Common.{◌≡◌, ℕ, zero, suc, ◌<◌, Bool, true, false, if◌then◌else◌, ◌==◌, ◌≢◌, [], ◌∷◌, sym, refl, ap, ◌∙◌, subst, ap₂, inl, inr}
 use mathlib.Core.Path.{fun_ext}
 use Rattle.std.proofs.lemmas.Bool.{cases_eq}

@@ -1,5 +1,4 @@
--- Inverse matrices: of a block less a number, of the difference of two blocks of one direction, and of the change to eigenvectors.
--- Assumes nothing.
+-- Inverse matrices: of a block less a number, of the difference of two blocks of one direction, and of the change to eigenvectors. Assumes nothing.
 use Rattle.std.proofs.Common.{◌≡◌, Bool, true, false, if◌then◌else◌, ◌≢◌, [], ◌∷◌, refl, ◌∙◌, ap₂}
 use Rattle.field.specs.Ring.{Ring}
 use Rattle.code.specs.Decoding.{unit, block_matrix, to_eigen, from_eigen, undo_shift, undo_difference}

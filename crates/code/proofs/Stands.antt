@@ -1,5 +1,4 @@
--- Any two boxes are decoded: whatever the columns of the others, exactly one file has them. And the code's laws.
--- Assumes nothing.
+-- Any two boxes are decoded: whatever the columns of the others, exactly one file has them. And the code's laws. Assumes nothing.
 use Rattle.std.proofs.Common.{◌≡◌, ℕ, suc, ◌+◌, ◌-◌, ◌*◌, ◌/◌, ◌^◌, ◌<◌, ◌≤◌, ◌≢◌, [], ◌∷◌, sym, refl, ap, ap₂, ◌∙◌, subst, inl, inr, arith}
 use Rattle.std.proofs.lemmas.Bool.{cases_lt, cases_eq, cases_order}
 use Rattle.field.specs.Ring.{Ring, Divides}
