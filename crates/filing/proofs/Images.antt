@@ -26,7 +26,7 @@ module _ (Y : Symbols) {S : Type 0} (v : S → Y.Symbol) (m b a place low weight
   row_below d = partner_lt m k d a (shift_below (full Y m) b some) inside
 
   -- the two rows are there
-  pub low_below : low < 2 ^ m
+  low_below : low < 2 ^ m
   low_below = omega (arith, row_below false, lower_row)
 
   pub high_below : low + weight < 2 ^ m

@@ -1,6 +1,6 @@
 -- What writing a column of a file to a box of a stripe leads to. Assumes nothing.
-use Rattle.std.proofs.Common.{◌≡◌, ◌≢◌, ℕ, suc, ◌+◌, ◌^◌, ◌<◌, ◌≤◌, Bool, true, false, ◌&&◌, ◌||◌, ◌==◌, nat_lt, List, [], ◌∷◌, ◌++◌, map, length, slice_set, slice_index_or, Option, Some, None, refl, sym, ap, ap₂, ◌∙◌, subst, inl, inr, ◌⊎◌, add-one, arith, tests, true≢false}
-use Rattle.std.proofs.lemmas.Bool.{cases_eq, cases_lt}
+use Rattle.std.proofs.Common.{◌≡◌, ◌≢◌, ℕ, suc, ◌+◌, ◌^◌, ◌<◌, ◌≤◌, Bool, true, false, ◌&&◌, ◌||◌, ◌==◌, nat_lt, List, [], ◌∷◌, ◌++◌, map, length, slice_set, slice_index_or, Some, refl, sym, ap, ap₂, ◌∙◌, subst, inl, inr, ◌⊎◌, add-one, arith, tests, true≢false}
+use Rattle.std.proofs.lemmas.Bool.{cases_eq, cases_lt, or_parts}
 use Rattle.std.proofs.lemmas.Bool.Decides.{nat_tests}
 use Rattle.std.proofs.lemmas.List.{get_or_append_left, get_or-append-add, length-append, length-map, map-append, take_all}
 use Rattle.std.proofs.Math.Seq.{take-append_seam}
@@ -8,27 +8,20 @@ use Rattle.field.specs.Symbols.{Symbols}
 use Rattle.code.specs.Codes.{File, column, full, Alike}
 use Rattle.code.specs.Contents.{Holds, at}
 use Rattle.shelf.specs.Meaning.{IsShelf, Meaning, box_count, column as box_column, is_standing, symbol_at, symbol_of, with_row, with_symbol}
-use Rattle.shelf.proofs.Meanings.{change-same}
 use Rattle.shelf_rows.specs.Rows.{has_rows, overwritten, rows_at, rows_of, with_rows, with_stretch}
-use Rattle.shelf_rows.proofs.Columns.{overwritten-more, overwritten_none}
+use Rattle.shelf_rows.proofs.Columns.{overwritten-more}
 use Rattle.shelf_rows.proofs.Rows.{box_count_stays, changed_twice, column_stays, column_there, read_back, row_stays, standing_stays}
+use Rattle.shelf_rows.proofs.Turns.{write_none}
 use Rattle.stripe.specs.Stripes.{OnlyStripe, has_stripe, held, stands}
-use Rattle.stripe_file.proofs.Loads.{stripe_rows}
+use Rattle.stripe.proofs.Held.{only_then, stripe_rows}
 use Rattle.filing.specs.Rewriting.{Rewritten}
 
 module _ {T : Type 0} (s : Meaning T) (b from : ℕ) where
-  none_added : with_rows s b from [] ≡ s
-  none_added = change-same s b (with_stretch from []) (by (box_column s b))
-    where
-      by : (o : Option (List T)) → with_stretch from [] o ≡ o
-      by None = refl
-      by (Some ys) = ap Some (overwritten_none from ys)
-
   module _ (xs : List T) (x : T) where
     abbrev more : List T
     more = xs ++ x ∷ []
 
-    pub one_longer : length more ≡ length xs + 1
+    one_longer : length more ≡ length xs + 1
     one_longer = length-append xs (x ∷ [])
 
     last_is : x ≡ slice_index_or more (length xs) x
@@ -41,7 +34,7 @@ module _ {T : Type 0} (s : Meaning T) (b from : ℕ) where
         ∙ ap (λ zs. overwritten from zs ys) (take_all (length xs + 1) more (omega (arith, one_longer)))
 
     -- one symbol more is written
-    pub one_added : IsShelf s → has_rows s b from (length xs + 1) ≡ true → with_symbol (with_rows s b from xs) b (from + length xs) x ≡ with_rows s b from more
+    one_added : IsShelf s → has_rows s b from (length xs + 1) ≡ true → with_symbol (with_rows s b from xs) b (from + length xs) x ≡ with_rows s b from more
     one_added i e =
         let c = column_there s b from (length xs + 1) i e in
         changed_twice s b (with_stretch from xs) (with_row (from + length xs) x) (with_stretch from more)
@@ -58,7 +51,7 @@ module _ (Y : Symbols) {T : Type 0} (v : T → Y.Symbol) (m from : ℕ) (f : Fil
     pub written : new ≡ with_rows old (suc b) from symbols
 
   pub no_row : (b : ℕ) (s : Meaning T) → Written 0 b s s
-  no_row b s = record { symbols = []; count = refl; column = λ a l. absurd (omega arith); written = sym (none_added s (suc b) from) }
+  no_row b s = record { symbols = []; count = refl; column = λ a l. absurd (omega arith); written = sym (write_none s (suc b) from) }
 
   at_more : (xs : List T) (x : T) (a : ℕ) → a < length xs → at Y v (xs ++ x ∷ []) a ≡ at Y v xs a
   at_more xs x a l =
@@ -74,7 +67,7 @@ module _ (Y : Symbols) {T : Type 0} (v : T → Y.Symbol) (m from : ℕ) (f : Fil
   pub row_more : (b n : ℕ) (s s1 : Meaning T) (x : T) → IsShelf s → has_stripe m from s ≡ true → stands s b ≡ true → n < 2 ^ m → v x ≡ column (full Y m) f b n
       → Written n b s s1 → Written (n + 1) b s (with_symbol s1 (b + 1) (from + n) x)
   row_more b n s s1 x i there stand l e w =
-      let rows : has_rows s (suc b) from (2 ^ m) ≡ true = stripe_rows m from b s there stand in
+      let rows : has_rows s (suc b) from (2 ^ m) ≡ true = stripe_rows m from s (suc b) there stand in
       let enough : has_rows s (suc b) from (length w.symbols + 1) ≡ true = fewer (length w.symbols + 1) (omega (arith, w.count)) rows in
       record {
         symbols = w.symbols ++ x ∷ [];
@@ -93,13 +86,13 @@ module _ (Y : Symbols) {T : Type 0} (v : T → Y.Symbol) (m from : ℕ) (f : Fil
 
   -- all rows of a box
   module _ (b : ℕ) (s s1 : Meaning T) (i : IsShelf s) (there : has_stripe m from s ≡ true) (stand : stands s b ≡ true) (w : Written (2 ^ m) b s s1) where
-    pub box_holds : Alike (full Y m) (held Y v m from s1 b) (column (full Y m) f b)
+    box_holds : Alike (full Y m) (held Y v m from s1 b) (column (full Y m) f b)
     box_holds a l =
         ap (λ xs. at Y v xs a)
-        (ap (λ k. rows_at k (suc b) from (2 ^ m)) w.written ∙ read_back s (suc b) from (2 ^ m) w.symbols i w.count (stripe_rows m from b s there stand))
+        (ap (λ k. rows_at k (suc b) from (2 ^ m)) w.written ∙ read_back s (suc b) from (2 ^ m) w.symbols i w.count (stripe_rows m from s (suc b) there stand))
         ∙ w.column a l
 
-    pub box_others : (d : ℕ) → suc b ≢ d → box_column s1 d ≡ box_column s d
+    box_others : (d : ℕ) → suc b ≢ d → box_column s1 d ≡ box_column s d
     box_others d n = ap (λ k. box_column k d) w.written ∙ column_stays s (suc b) from w.symbols d n
 
     box_elsewhere : (d a : ℕ) → (a < from) ⊎ (from + 2 ^ m ≤ a) → symbol_at s1 d a ≡ symbol_at s d a
@@ -111,7 +104,7 @@ module _ (Y : Symbols) {T : Type 0} (v : T → Y.Symbol) (m from : ℕ) (f : Fil
       | inr n ↦ ap (λ o. symbol_of o a) (box_others d n)
     ]
 
-    pub box_only : OnlyStripe m from s s1
+    box_only : OnlyStripe m from s s1
     box_only = record {
       boxes = ap (λ k. box_count k) w.written ∙ box_count_stays s (suc b) from w.symbols;
       rows = ap (λ k. k.rows) w.written;
@@ -138,22 +131,13 @@ module _ (Y : Symbols) {T : Type 0} (v : T → Y.Symbol) (m from : ℕ) (f : Fil
   }
 
   -- some boxes, and then others
-  pub rewritten_then : (p q r : ℕ → Bool) (s s1 s2 : Meaning T) → ((d : ℕ) → r d ≡ (p d || q d)) → All p s s1 → All q s1 s2 → All r s s2
+  rewritten_then : (p q r : ℕ → Bool) (s s1 s2 : Meaning T) → ((d : ℕ) → r d ≡ (p d || q d)) → All p s s1 → All q s1 s2 → All r s s2
   rewritten_then p q r s s1 s2 like one two = record {
-    only = record {
-      boxes = two.only.boxes ∙ one.only.boxes;
-      rows = two.only.rows ∙ one.only.rows;
-      stand = λ b. two.only.stand b ∙ one.only.stand b;
-      elsewhere = λ b a h. two.only.elsewhere b a h ∙ one.only.elsewhere b a h;
-    };
+    only = only_then m from s s1 s2 one.only two.only;
     holds = λ d e a l. by d a l (sym (like d) ∙ e) (q d) refl;
-    others = λ d e. let n = neither (p d) (q d) (sym (like d) ∙ e) in two.others d n.1 ∙ one.others d n.0;
+    others = λ d e. let n = or_parts (p d) (q d) (sym (like d) ∙ e) in two.others d n.1 ∙ one.others d n.0;
   }
     where
-      neither : (t u : Bool) → (t || u) ≡ false → (t ≡ false) × (u ≡ false)
-      neither true u e = absurd (true≢false e)
-      neither false u e = (refl, e)
-
       first : (t : Bool) → (t || false) ≡ true → t ≡ true
       first true e = refl
       first false e = absurd (true≢false (sym e))

@@ -1,5 +1,5 @@
 -- What the calls of a frame make of a row of symbols that it divides. Assumes nothing.
-use Rattle.std.proofs.Common.{◌≡◌, ℕ, zero, suc, ◌+◌, ◌-◌, ◌*◌, ◌≤◌, ◌<◌, Bool, true, false, not, ◌&&◌, nat_le, nat_lt, if◌then◌else◌, List, [], ◌∷◌, length, take, drop, slice_get, slice_index_or, slice_range, slice_set, Some, None, is_some, refl, sym, ap, ◌∙◌, arith, suc-add, inl, inr, length-set, length-take}
+use Rattle.std.proofs.Common.{◌≡◌, ℕ, zero, suc, ◌+◌, ◌-◌, ◌*◌, ◌≤◌, ◌<◌, Bool, true, false, not, ◌&&◌, nat_le, nat_lt, if◌then◌else◌, List, length, take, drop, slice_get, slice_index_or, slice_range, slice_set, Some, None, is_some, refl, sym, ap, ◌∙◌, arith, inl, inr, length-set, length-take}
 use Rattle.std.proofs.Math.Nat.{mul-le-mul_right, suc-mul}
 use Rattle.std.proofs.Math.Seq.{take-set-lt}
 use Rattle.std.proofs.lemmas.Bool.{and_parts, cases_lt, not-true, leb-true, le-leb, lt-leb, ltb-true}
@@ -7,20 +7,10 @@ use Rattle.std.proofs.lemmas.List.{get_or-take, get_or_past, length-take-le}
 use Rattle.std.proofs.lemmas.Option.{cond_some}
 use Rattle.std.specs.declared.ops.Range.{Range}
 use Rattle.shelf.specs.Meaning.{box_count, column, has_row, is_out, is_standing, symbol_at, symbol_of, with_out, with_standing, with_symbol}
+use Rattle.shelf.proofs.Cuts.{slice_get-drop, slice_get-take}
 use Rattle.frame.specs.Layouts.{Layout, box_of, boxes_in, end_of, filled, is_marked, is_numbered, is_out_in, laid, place_in, room_in, rows_in, stands_in, start_of, with_mark}
 use Rattle.frame.specs.Frames.{layout_fits, length-cut}
 use Rattle.frame.proofs.Cuts.{cut_in, cut_out, cut_set, in_place-cut, length-filled}
-
-slice_get-take : {T : Type 0} (n : ℕ) (xs : List T) (i : ℕ) → i < n → slice_get (take n xs) i ≡ slice_get xs i
-slice_get-take zero xs i h = absurd (omega arith)
-slice_get-take (suc n) [] i h = refl
-slice_get-take (suc n) (x ∷ xs) zero h = refl
-slice_get-take (suc n) (x ∷ xs) (suc i) h = slice_get-take n xs i (omega arith)
-
-slice_get-drop : {T : Type 0} (n : ℕ) (xs : List T) (i : ℕ) → slice_get (drop n xs) i ≡ slice_get xs (n + i)
-slice_get-drop zero xs i = ap (slice_get xs) (omega arith)
-slice_get-drop (suc n) [] i = refl
-slice_get-drop (suc n) (x ∷ xs) i = slice_get-drop n xs i ∙ rw suc-add refl
 
 is_some-box_of : {T : Type 0} (mark : Bool) (xs : List T) → is_some (box_of mark xs) ≡ mark
 is_some-box_of true xs = refl

@@ -1,3 +1,4 @@
+pub mod Cuts
 mod Lawful
 pub mod Meanings
 pub mod Places

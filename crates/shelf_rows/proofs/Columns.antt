@@ -3,6 +3,7 @@ use Rattle.std.proofs.Common.{◌≡◌, ℕ, zero, suc, ◌+◌, ◌-◌, ◌�
 use Rattle.std.proofs.lemmas.Bool.{cases_lt}
 use Rattle.std.proofs.lemmas.Option.{slice_get_past}
 use Rattle.std.proofs.lemmas.List.{length-append, length-take, length-take-le, length-drop, set_split, take_all, take_more}
+use Rattle.shelf.proofs.Cuts.{slice_get-drop, slice_get-take}
 use Rattle.shelf_rows.specs.Rows.{overwritten}
 
 module _ {T : Type 0} where
@@ -25,17 +26,6 @@ module _ {T : Type 0} where
   slice_get-right [] ys i h = ap (slice_get ys) (omega arith)
   slice_get-right (x ∷ xs) ys zero h = absurd (omega arith)
   slice_get-right (x ∷ xs) ys (suc i) h = slice_get-right xs ys i (omega arith) ∙ ap (slice_get ys) (omega arith)
-
-  slice_get-take : (n : ℕ) (xs : List T) (i : ℕ) → i < n → slice_get (take n xs) i ≡ slice_get xs i
-  slice_get-take zero xs i h = absurd (omega arith)
-  slice_get-take (suc n) [] i h = refl
-  slice_get-take (suc n) (x ∷ xs) zero h = refl
-  slice_get-take (suc n) (x ∷ xs) (suc i) h = slice_get-take n xs i (omega arith)
-
-  slice_get-drop : (n : ℕ) (xs : List T) (i : ℕ) → slice_get (drop n xs) i ≡ slice_get xs (n + i)
-  slice_get-drop zero xs i = ap (slice_get xs) (omega arith)
-  slice_get-drop (suc n) [] i = refl
-  slice_get-drop (suc n) (x ∷ xs) i = let e : suc (n + i) ≡ suc n + i = omega arith in slice_get-drop n xs i ∙ ap (slice_get (x ∷ xs)) e
 
   -- a row of some that are read
   pub slice_get-range : (ys : List T) (from n i : ℕ) → i < n → slice_get (slice_range ys from (from + n)) i ≡ slice_get ys (from + i)

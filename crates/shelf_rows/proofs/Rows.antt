@@ -83,7 +83,7 @@ module _ {T : Type 0} where
       ∙ ap (λ k. slice_range (overwritten from xs c.0) from (from + k)) (sym l)
       ∙ overwritten_read from xs c.0 (omega (arith, c.2))
 
-  pub row_written : (m : Meaning T) (b from : ℕ) (xs : List T) (a : ℕ) → IsShelf m → has_rows m b from (length xs) ≡ true → from ≤ a → a < from + length xs
+  row_written : (m : Meaning T) (b from : ℕ) (xs : List T) (a : ℕ) → IsShelf m → has_rows m b from (length xs) ≡ true → from ≤ a → a < from + length xs
       → symbol_at (with_rows m b from xs) b a ≡ slice_get xs (a - from)
   row_written m b from xs a s e l h =
       let c = column_there m b from (length xs) s e in
@@ -107,7 +107,7 @@ module _ {T : Type 0} where
       by None = refl
       by (Some ys) = ⊎_elim (range_after from xs ys other n) (range_before from xs ys other n) h
 
-  pub rows_stay : (m : Meaning T) (b from : ℕ) (xs : List T) (d other n : ℕ) → Apart b from (length xs) d other n → rows_at (with_rows m b from xs) d other n ≡ rows_at m d other n
+  rows_stay : (m : Meaning T) (b from : ℕ) (xs : List T) (d other n : ℕ) → Apart b from (length xs) d other n → rows_at (with_rows m b from xs) d other n ≡ rows_at m d other n
   rows_stay m b from xs d other n h = ⊎_elim others (λ r. ⊎_elim (λ e. subst (λ k. rows_at (with_rows m b from xs) k other n ≡ rows_at m k other n) e (rows_of_stay m b from xs other n r)) others (cases_eq b d)) h
     where
       others : b ≢ d → rows_at (with_rows m b from xs) d other n ≡ rows_at m d other n
@@ -142,7 +142,7 @@ module _ {T : Type 0} where
   full_box l cs zero from xs h = h
   full_box l cs (suc i) from xs h = full_place l cs i from xs h
 
-  pub still_shelf : (m : Meaning T) (b from : ℕ) (xs : List T) → IsShelf m → IsShelf (with_rows m b from xs)
+  still_shelf : (m : Meaning T) (b from : ℕ) (xs : List T) → IsShelf m → IsShelf (with_rows m b from xs)
   still_shelf m b from xs s = record {
     few = omega (arith, s.few, box_count_stays m b from xs);
     some = λ z. omega (arith, s.some z, box_count_stays m b from xs);
@@ -150,7 +150,7 @@ module _ {T : Type 0} where
     full = full_box m.rows m.boxes b from xs s.full;
   }
 
-  pub same_written : (m : Meaning T) (b from n : ℕ) → with_rows m b from (rows_at m b from n) ≡ m
+  same_written : (m : Meaning T) (b from n : ℕ) → with_rows m b from (rows_at m b from n) ≡ m
   same_written m b from n = change-same m b (with_stretch from (rows_at m b from n)) (by (column m b))
     where
       by : (o : Option (List T)) → with_stretch from (rows_of o from n) o ≡ o
@@ -164,7 +164,7 @@ module _ {T : Type 0} where
       by None = refl
       by (Some zs) = ap Some (overwritten-again from xs ys zs n)
 
-  pub adjoining : (m : Meaning T) (b from : ℕ) (xs ys : List T) → IsShelf m → has_rows m b from (length xs + length ys) ≡ true
+  adjoining : (m : Meaning T) (b from : ℕ) (xs ys : List T) → IsShelf m → has_rows m b from (length xs + length ys) ≡ true
       → with_rows (with_rows m b from xs) b (from + length xs) ys ≡ with_rows m b from (xs ++ ys)
   adjoining m b from xs ys s e =
       let c = column_there m b from (length xs + length ys) s e in
@@ -183,7 +183,7 @@ module _ {T : Type 0} where
       by None = refl
       by (Some zs) = ap Some (overwritten-apart from other xs ys zs h)
 
-  pub apart : (m : Meaning T) (b from : ℕ) (xs : List T) (d other : ℕ) (ys : List T) → Apart b from (length xs) d other (length ys)
+  apart : (m : Meaning T) (b from : ℕ) (xs : List T) (d other : ℕ) (ys : List T) → Apart b from (length xs) d other (length ys)
       → with_rows (with_rows m b from xs) d other ys ≡ with_rows (with_rows m d other ys) b from xs
   apart m b from xs d other ys h = ⊎_elim others (λ r. ⊎_elim (λ e. subst (λ k. with_rows (with_rows m b from xs) k other ys ≡ with_rows (with_rows m k other ys) b from xs) e (same r)) others (cases_eq b d)) h
     where

@@ -1,5 +1,4 @@
--- What each call of a vault answers, and what it leaves of the vault, its shelf and the buffer, whatever the boxes hold.
--- Assumes nothing.
+-- What each call of a vault answers, and what it leaves of the vault, its shelf and the buffer, whatever the boxes hold. Assumes nothing.
 use Rattle.std.specs.Prelude.{◌≡◌, ◌≢◌, ℕ, suc, ◌+◌, ◌-◌, ◌*◌, ◌^◌, ◌<◌, true, List, [], drop, length, Option, Some, Result, IfOk, OnErr}
 use Rattle.field.specs.Symbols.{Symbols}
 use Rattle.code.specs.Codes.{full, half_for}

@@ -1,9 +1,8 @@
-use Rattle.std.proofs.Common.{◌≡◌, ◌*◌, ◌^◌, length, sym, ap, ◌∙◌, ap₂, subst, arith}
+use Rattle.std.proofs.Common.{◌≡◌, ◌*◌, ◌^◌, length, sym, ap, ◌∙◌, subst, arith}
 use Rattle.code.specs.Codes.{full, sum}
 use Rattle.code.specs.Contents.{at, parts}
-use Rattle.code.proofs.Sums.{sum_more}
 use Rattle.columns.specs.Parities.{share}
-use Rattle.columns.proofs.Shares.{share_same, all_parts}
+use Rattle.columns.proofs.Shares.{shares_more, all_parts}
 use Rattle.columns.proofs.Slices.{Left, left_part, left_more}
 use Rattle.filing.proofs.symbols.parity_symbol.Goals as goal
 
@@ -25,11 +24,9 @@ loop-b-preserved g c =
       steps.0.0 ∙ inv.0,
       subst (λ k. Left Y v (2 ^ m) k file c.next.new.self.iter.rest.now) (sym steps.2) next,
       c.sum-sum.ensures
-          ∙ ap₂ Y.ring.plus inv.2
-          (c.share_symbol.ensures ∙ ap (λ k. share which code k (at Y v x) a) steps.1
-          ∙ share_same which code came (at Y v x) (parts Y v (2 ^ m) file came) c.args.cabinet.now.size.some (left_part Y v (2 ^ m) came file _ x _ steps.0.1.0 size inv.1) a c.requires.inside)
-          ∙ sym (sum_more Y.ring came (λ b. share which code b (parts Y v (2 ^ m) file b) a))
-          ∙ ap (λ k. sum Y.ring k (λ b. share which code b (parts Y v (2 ^ m) file b) a)) (sym steps.2),
+          ∙ ap (Y.ring.plus _) c.share_symbol.ensures
+          ∙ shares_more which code c.args.cabinet.now.size.some (parts Y v (2 ^ m) file) (at Y v x) came _ _ a steps.1 steps.2
+          (left_part Y v (2 ^ m) came file _ x _ steps.0.1.0 size inv.1) c.requires.inside _ inv.2,
     )
 
 pub returns : goal.returns
