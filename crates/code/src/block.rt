@@ -17,6 +17,7 @@ pub struct Block<F> {
 impl<F: Sums> Block<F> {
     // Both rows, by kind: apart from `apply`, so that the table is proved by itself
     // and the eigenvalues from it.
+    #[inline(always)]
     fn rows(self, s: F, t: F) -> (F, F)
         ensures lower { F.value result.0 ≡ blocked F.symbols.ring self.kind (F.value self.p) (F.value self.q) (F.value s) (F.value t) false }
         ensures upper { F.value result.1 ≡ blocked F.symbols.ring self.kind (F.value self.p) (F.value self.q) (F.value s) (F.value t) true }
@@ -31,6 +32,7 @@ impl<F: Sums> Block<F> {
 
     // What the block makes of s in the lower and t in the upper row. It is the
     // code's block, since it has the eigenvalues of the construction.
+    #[inline(always)]
     pub fn apply(self, s: F, t: F) -> (F, F)
         ensures lower { F.value result.0 ≡ blocked F.symbols.ring self.kind (F.value self.p) (F.value self.q) (F.value s) (F.value t) false }
         ensures upper { F.value result.1 ≡ blocked F.symbols.ring self.kind (F.value self.p) (F.value self.q) (F.value s) (F.value t) true }
