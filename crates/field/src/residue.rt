@@ -2,6 +2,7 @@
 #![tactic(auto, using(crate::proofs::Residues::residue_again, crate::proofs::Residues::settled))]
 
 ghost use Rattle.std.specs.Prelude.{◌≡◌, ℕ, ◌-◌, ◌^◌, ◌<◌, ◌≤◌};
+ghost use Rattle.std.specs.Mem.{type_size};
 ghost use Rattle.field.specs.Marks.{Marks};
 ghost use Rattle.field.specs.Numbers.{NumberOf, residue};
 ghost use Rattle.field.specs.Residues.{Prime, integers};
@@ -23,6 +24,10 @@ pub trait Residue: Copy {
     ghost number: { Self → ℕ };
 
     ghost of_number: { ℕ → Self };
+
+    // What `takes_few_bytes` of Sums promises.
+    fn few_bytes()
+        ensures { type_size Self.row ≤ 64 };
 
     fn from_number(n: u32) -> Self
         requires { n < SIZE }
@@ -57,6 +62,10 @@ impl<R: Residue> Sums for R {
     ghost of_number = { R.of_number };
 
     ghost marks_agree = { R.marks_agree };
+
+    fn takes_few_bytes() {
+        R::few_bytes()
+    }
 
     fn zero() -> R {
         R::from_number(0)

@@ -38,6 +38,8 @@ impl Residue for Five {
 
     ghost marks_agree = { refl };
 
+    fn few_bytes() {}
+
     fn from_number(n: u32) -> Five {
         SYMBOLS[n as usize]
     }

@@ -32,6 +32,8 @@ impl Residue for Words {
 
     ghost marks_agree = { refl };
 
+    fn few_bytes() {}
+
     fn from_number(n: u32) -> Words {
         u16::try_from(n).map_or(Words::Top, Words::Low)
     }
