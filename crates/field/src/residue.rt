@@ -17,6 +17,11 @@ pub trait Residue: Copy {
 
     ghost SIZE: { ℕ };
 
+    // How many marks there are: all symbols but zero.
+    const MARK_COUNT: u32;
+
+    ghost MARK_COUNT: { ℕ };
+
     ghost above_one: { 1 < SIZE };
 
     ghost marks: { Marks SIZE };
@@ -47,13 +52,15 @@ pub trait Residue: Copy {
     // Twice the size fits in 32 bits.
     ghost small: { SIZE < 2 ^ 31 };
 
-    ghost marks_agree: { SIZE - 1 ≡ marks.count };
+    ghost marks_agree: { MARK_COUNT ≡ marks.count };
+
+    ghost all_marked: { SIZE - 1 ≡ MARK_COUNT };
 }
 
 impl<R: Residue> Sums for R {
-    const MARKS: u32 = R::SIZE - 1;
+    const MARKS: u32 = R::MARK_COUNT;
 
-    ghost MARKS = { R.SIZE - 1 };
+    ghost MARKS = { R.MARK_COUNT };
 
     ghost symbols = { integers R.SIZE R.above_one R.marks };
 

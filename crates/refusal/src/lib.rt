@@ -101,9 +101,10 @@ pub fn sized(m: usize) -> Result<(), Refusal>
     refuse_if(m < 1 || 6 < m, Refusal::Size)
 }
 
-// Public questions that stand as they were promised; the check beside each asks it.
+// The same questions as yes or no; the check beside each asks it.
 
-// Does the field have fewer than 2m marks?
+// Does the field have fewer than 2m marks? Half their count is compared with m,
+// since 2m need not fit.
 pub fn few_marks<F: Sums>(m: usize) -> bool
     ensures { result ≡ nat_lt F.symbols.marks (2 * m) }
 {
