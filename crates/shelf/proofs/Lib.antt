@@ -1,3 +1,6 @@
+pub mod Columns
 mod Lawful
 pub mod Meanings
 pub mod Places
+pub mod Rows
+pub mod Turns

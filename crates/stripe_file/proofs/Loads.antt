@@ -12,7 +12,7 @@ use Rattle.missing.specs.Missing.{Found, present}
 use Rattle.missing.specs.declared.Missing.{Missing}
 use Rattle.missing.proofs.Presence.{present_found}
 use Rattle.shelf.specs.Meaning.{Meaning}
-use Rattle.shelf_rows.specs.Rows.{has_rows, rows_at, rows_read}
+use Rattle.shelf.specs.Rows.{has_rows, rows_at, rows_read}
 use Rattle.stripe.specs.Stripes.{StripeFile, has_stripe, held, stands}
 
 -- a box that stands has the rows of the stripe

@@ -17,7 +17,6 @@ use field::{Quotients, Sums};
 use missing::{Missing, are_boxes};
 use refusal::{Refusal, fitting, refuse_if};
 use shelf::Shelf;
-use shelf_rows::read_rows;
 use stripe::{Stripe, on_shelf};
 
 // Reads what the box in place b holds of a stripe into place x of a file.

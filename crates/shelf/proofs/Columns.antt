@@ -3,7 +3,7 @@ use Rattle.std.proofs.Common.{◌≡◌, ℕ, zero, suc, ◌+◌, ◌-◌, ◌�
 use Rattle.std.proofs.lemmas.Bool.{cases_lt}
 use Rattle.std.proofs.lemmas.Option.{slice_get_past}
 use Rattle.std.proofs.lemmas.List.{length-append, length-take, length-take-le, length-drop, set_split, take_all, take_more}
-use Rattle.shelf_rows.specs.Rows.{overwritten}
+use Rattle.shelf.specs.Rows.{overwritten}
 
 module _ {T : Type 0} where
   -- columns that have the same in every row are the same
