@@ -7,7 +7,7 @@ use Rattle.shelf.specs.Rows.{overwritten}
 
 module _ {T : Type 0} where
   -- columns that have the same in every row are the same
-  rows_determine : (xs ys : List T) → ((i : ℕ) → slice_get xs i ≡ slice_get ys i) → xs ≡ ys
+  pub rows_determine : (xs ys : List T) → ((i : ℕ) → slice_get xs i ≡ slice_get ys i) → xs ≡ ys
   rows_determine [] [] h = refl
   rows_determine [] (y ∷ ys) h = let e = h zero in absurd (grind arith)
   rows_determine (x ∷ xs) [] h = let e = h zero in absurd (grind arith)
@@ -26,13 +26,13 @@ module _ {T : Type 0} where
   slice_get-right (x ∷ xs) ys zero h = absurd (omega arith)
   slice_get-right (x ∷ xs) ys (suc i) h = slice_get-right xs ys i (omega arith) ∙ ap (slice_get ys) (omega arith)
 
-  slice_get-take : (n : ℕ) (xs : List T) (i : ℕ) → i < n → slice_get (take n xs) i ≡ slice_get xs i
+  pub slice_get-take : (n : ℕ) (xs : List T) (i : ℕ) → i < n → slice_get (take n xs) i ≡ slice_get xs i
   slice_get-take zero xs i h = absurd (omega arith)
   slice_get-take (suc n) [] i h = refl
   slice_get-take (suc n) (x ∷ xs) zero h = refl
   slice_get-take (suc n) (x ∷ xs) (suc i) h = slice_get-take n xs i (omega arith)
 
-  slice_get-drop : (n : ℕ) (xs : List T) (i : ℕ) → slice_get (drop n xs) i ≡ slice_get xs (n + i)
+  pub slice_get-drop : (n : ℕ) (xs : List T) (i : ℕ) → slice_get (drop n xs) i ≡ slice_get xs (n + i)
   slice_get-drop zero xs i = ap (slice_get xs) (omega arith)
   slice_get-drop (suc n) [] i = refl
   slice_get-drop (suc n) (x ∷ xs) i = let e : suc (n + i) ≡ suc n + i = omega arith in slice_get-drop n xs i ∙ ap (slice_get (x ∷ xs)) e

@@ -95,6 +95,7 @@ pub trait Shelf {
 
     // Writes the symbols into the rows of box b, from row `from` on; refused as
     // read_rows is.
+    #[tactic(auto, using(crate::proofs::Turns::write_more))]
     fn write_rows(&mut self, b: usize, from: usize, symbols: &[Self::Symbol]) -> bool
         ensures answer { result ≡ has_rows (meaning self.old) b from (length symbols.now) }
         ensures after { meaning self.new ≡ with_rows (meaning self.old) b from symbols.now }

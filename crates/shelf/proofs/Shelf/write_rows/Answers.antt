@@ -1,6 +1,6 @@
 use Rattle.std.proofs.Common.{refl, sym, arith, tests}
 use Rattle.shelf.proofs.Rows.{refused}
-use Rattle.shelf.proofs.Turns.{write_more, write_none}
+use Rattle.shelf.proofs.Turns.{write_none}
 use Rattle.shelf.proofs.Shelf.write_rows.Goals as goal
 
 pub returns-then-not-stands-clause-after : goal.returns-then-not-stands-clause-after
@@ -10,11 +10,4 @@ returns-then-not-stands-clause-after g c =
     grind (arith, tests)
 
 pub loop-i-init : goal.loop-i-init
-loop-i-init g c = (sym (write_none _ _ _), refl)
-
-pub loop-i-preserved : goal.loop-i-preserved
-loop-i-preserved g c =
-    let a = c.args in
-    let i = c.loop-i.i in
-    let w = write_more (g.Self.Shelf.meaning c.sizes.new.self) a.b a.from a.symbols.now i c.index-symbols-i.result (g.met.Self.Shelf.sound c.sizes.new.self) in
-    (grind (arith, tests), grind arith)
+loop-i-init g c = (sym (write_none _ _ _), refl, g.met.Self.Shelf.sound _, grind (arith, tests))
