@@ -8,10 +8,10 @@ use Rattle.field.specs.Symbols.{Symbols}
 use Rattle.code.specs.Codes.{File, column, full, Alike}
 use Rattle.code.specs.Contents.{Holds, at}
 use Rattle.shelf.specs.Meaning.{IsShelf, Meaning, box_count, column as box_column, is_standing, symbol_at, symbol_of, with_row, with_symbol}
-use Rattle.shelf_rows.specs.Rows.{has_rows, overwritten, rows_at, rows_of, with_rows, with_stretch}
-use Rattle.shelf_rows.proofs.Columns.{overwritten-more}
-use Rattle.shelf_rows.proofs.Rows.{box_count_stays, changed_twice, column_stays, column_there, read_back, row_stays, standing_stays}
-use Rattle.shelf_rows.proofs.Turns.{write_none}
+use Rattle.shelf.specs.Rows.{has_rows, overwritten, rows_at, rows_of, with_rows, with_stretch}
+use Rattle.shelf.proofs.Columns.{overwritten-more}
+use Rattle.shelf.proofs.Rows.{box_count_stays, changed_twice, column_stays, column_there, read_back, row_stays, standing_stays}
+use Rattle.shelf.proofs.Turns.{write_none}
 use Rattle.stripe.specs.Stripes.{OnlyStripe, has_stripe, held, stands}
 use Rattle.stripe.proofs.Held.{only_then, stripe_rows}
 use Rattle.filing.specs.Rewriting.{Rewritten}

@@ -4,10 +4,10 @@ use Rattle.std.proofs.lemmas.Bool.{cases_eq}
 use Rattle.std.proofs.lemmas.Option.{get_or_from_slice_get, slice_get-get_or}
 use Rattle.std.proofs.lemmas.List.{length-take, take_all}
 use Rattle.shelf.specs.Meaning.{IsShelf, Meaning, box_count, column, has_row, is_standing, symbol_at, symbol_of, with_symbol}
-use Rattle.shelf_rows.specs.Rows.{has_rows, overwritten, rows_at, with_rows}
-use Rattle.shelf_rows.proofs.Rows.{box_count_stays, column_stays, has_rows_stays, read_back, row_stays, rows_read_there, standing_stays, written_again}
-use Rattle.shelf_rows.proofs.Turns.{read_all, read_more, write_more, write_none}
-use Rattle.shelf_rows.proofs.Columns.{overwritten_none, slice_get-after}
+use Rattle.shelf.specs.Rows.{has_rows, overwritten, rows_at, with_rows}
+use Rattle.shelf.proofs.Rows.{box_count_stays, column_stays, has_rows_stays, read_back, row_stays, rows_read_there, standing_stays, written_again}
+use Rattle.shelf.proofs.Turns.{read_all, read_more, write_more, write_none}
+use Rattle.shelf.proofs.Columns.{overwritten_none, slice_get-after}
 use Rattle.stripe.specs.Stripes.{OnlyStripe}
 use Rattle.renewing.specs.Exchanges.{Exchanged}
 

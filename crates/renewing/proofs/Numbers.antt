@@ -14,7 +14,7 @@ use Rattle.code.specs.declared.Kind.{Kind}
 use Rattle.columns.proofs.Mids.{map_mid, mid_before, mid_inside}
 use Rattle.shelf.specs.Meaning.{IsShelf, Meaning, has_row, is_standing, symbol_at}
 use Rattle.shelf.proofs.Meanings.{symbol_at_there}
-use Rattle.shelf_rows.specs.Rows.{has_rows, rows_at}
+use Rattle.shelf.specs.Rows.{has_rows, rows_at}
 use Rattle.stripe.specs.Stripes.{has_stripe, held, stands}
 use Rattle.stripe.proofs.Held.{at_row, held_number, stripe_rows}
 use Rattle.renewing.specs.Renewals.{HalvesOf, others_stand}

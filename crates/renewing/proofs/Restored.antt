@@ -12,7 +12,7 @@ use Rattle.code.specs.Contents.{at, parts}
 use Rattle.shelf.specs.Meaning.{Meaning, box_count, column, is_standing, symbol_at, symbol_of, unless_standing, with_standing}
 use Rattle.shelf.proofs.Meanings.{out_column}
 use Rattle.shelf.proofs.Places.{in_box-with_other, in_box-with_same, length-with_box}
-use Rattle.shelf_rows.specs.Rows.{rows_at}
+use Rattle.shelf.specs.Rows.{rows_at}
 use Rattle.stripe.specs.Stripes.{OnlyStripe, has_stripe, held, stands}
 use Rattle.stripe.proofs.Held.{held_number, held_same}
 use Rattle.renewing.specs.Renewals.{HalvesOf, OthersHold, NewBox, Renewed, others_stand}

@@ -5,7 +5,7 @@ ghost use Rattle.code.specs.Contents.{Holds, at, parts};
 ghost use Rattle.refusal.specs.Refusals.{earliest, no_box, no_helper, parity_box, refusal, wrong_lengths};
 ghost use Rattle.renewing.specs.Renewals.{HalvesOf, others_stand};
 ghost use Rattle.shelf.specs.Meaning.{has_row, symbol_at};
-ghost use Rattle.shelf_rows.specs.Rows.{has_rows, rows_at};
+ghost use Rattle.shelf.specs.Rows.{has_rows, rows_at};
 ghost use Rattle.stripe.specs.Reasons.{box_out};
 ghost use Rattle.stripe.specs.Stripes.{has_stripe, held, no_stripe, stands};
 

@@ -7,7 +7,7 @@ ghost use Rattle.refusal.specs.Refusals.{earliest, no_box, refusal, wrong_length
 ghost use Rattle.renewing.specs.Exchanges.{Exchanged};
 ghost use Rattle.renewing.specs.Renewals.{NewBox, Renewed, not_renewable, others_stand};
 ghost use Rattle.shelf.specs.Meaning.{column, has_row, is_standing, symbol_at, with_symbol};
-ghost use Rattle.shelf_rows.specs.Rows.{has_rows, rows_at, with_rows};
+ghost use Rattle.shelf.specs.Rows.{has_rows, rows_at, with_rows};
 ghost use Rattle.stripe.specs.Reasons.{box_out, box_stands};
 ghost use Rattle.stripe.specs.Stripes.{OnlyStripe, has_stripe, no_stripe, stands};
 

@@ -5,8 +5,8 @@ use Rattle.std.specs.Option.{option_map, unwrap_or}
 use Rattle.field.specs.Symbols.{Symbols}
 use Rattle.code.specs.Contents.{at}
 use Rattle.shelf.specs.Meaning.{Meaning, column, is_standing, symbol_at}
-use Rattle.shelf_rows.specs.Rows.{has_rows, rows_at, rows_of}
-use Rattle.shelf_rows.proofs.Rows.{row_read}
+use Rattle.shelf.specs.Rows.{has_rows, rows_at, rows_of}
+use Rattle.shelf.proofs.Rows.{row_read}
 use Rattle.stripe.specs.Stripes.{OnlyStripe, has_stripe, held}
 
 module _ (Y : Symbols) {T : Type 0} (value : T → Y.Symbol) where

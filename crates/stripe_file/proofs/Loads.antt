@@ -13,7 +13,7 @@ use Rattle.missing.specs.declared.Missing.{Missing}
 use Rattle.missing.proofs.Counts.{as_many}
 use Rattle.missing.proofs.Presence.{present_found}
 use Rattle.shelf.specs.Meaning.{Meaning}
-use Rattle.shelf_rows.specs.Rows.{has_rows, rows_at, rows_read}
+use Rattle.shelf.specs.Rows.{has_rows, rows_at, rows_read}
 use Rattle.stripe.proofs.Held.{stripe_rows}
 use Rattle.stripe.specs.Stripes.{StripeFile, has_stripe, held, stands}
 

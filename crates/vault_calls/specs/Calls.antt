@@ -7,7 +7,7 @@ use Rattle.code.specs.Standing.{standing}
 use Rattle.refusal.specs.Refusals.{earliest, refusal}
 use Rattle.refusal.specs.declared.Refusal.{Refusal}
 use Rattle.shelf.specs.Meaning.{Meaning, box_count, column, with_out}
-use Rattle.shelf_rows.specs.Rows.{rows_at}
+use Rattle.shelf.specs.Rows.{rows_at}
 use Rattle.stripe.specs.Stripes.{HoldsFile, OnlyStripe, StripeFile, held, stands}
 use Rattle.filing.specs.Restoring.{HoldsZero, Restored}
 use Rattle.amending.specs.Amendments.{Amended}

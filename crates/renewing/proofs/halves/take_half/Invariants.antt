@@ -2,7 +2,7 @@ use Rattle.std.proofs.Common.{◌≡◌, ◌-◌, ◌^◌}
 use Rattle.code.specs.Codes.{full, half_for}
 use Rattle.code.specs.Contents.{at}
 use Rattle.columns.proofs.Slices.{Rowwise}
-use Rattle.shelf_rows.specs.Rows.{rows_at}
+use Rattle.shelf.specs.Rows.{rows_at}
 use Rattle.renewing.proofs.halves.take_half.Given as goal
 
 abbrev pub invariant-loop-j : goal.invariant-loop-j

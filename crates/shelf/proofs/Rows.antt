@@ -5,9 +5,9 @@ use Rattle.std.proofs.lemmas.List.{length-drop, length-take}
 use Rattle.shelf.specs.Meaning.{AllHave, IsShelf, Meaning, box_count, change, column, in_box, in_place, is_standing, symbol_at, symbol_of, with_box, with_place}
 use Rattle.shelf.proofs.Places.{in_box-with_other, length-with_box, with_box-like, with_box-twice}
 use Rattle.shelf.proofs.Meanings.{change-same, column_length, standing_column}
-use Rattle.shelf_rows.specs.Rows.{has_rows, overwritten, rows_at, rows_of, rows_read, with_rows, with_stretch}
-use Rattle.shelf_rows.specs.Laws.{Apart, RowsStand}
-use Rattle.shelf_rows.proofs.Columns.{length-overwritten, overwritten-adjoining, overwritten-again, overwritten-apart, overwritten-same, overwritten_read, overwritten_refused, range_after, range_before, slice_get-after, slice_get-before, slice_get-range, slice_get-within}
+use Rattle.shelf.specs.Rows.{has_rows, overwritten, rows_at, rows_of, rows_read, with_rows, with_stretch}
+use Rattle.shelf.specs.RowLaws.{Apart, RowsStand}
+use Rattle.shelf.proofs.Columns.{length-overwritten, overwritten-adjoining, overwritten-again, overwritten-apart, overwritten-same, overwritten_read, overwritten_refused, range_after, range_before, slice_get-after, slice_get-before, slice_get-range, slice_get-within}
 
 -- changes of boxes apart may go in either order
 with_place-apart : {C : Type 0} (cs : List (Option C)) (i j : ℕ) (f h : Option C → Option C) → i ≢ j → with_place (with_place cs i f) j h ≡ with_place (with_place cs j h) i f

@@ -4,11 +4,11 @@ use Rattle.std.proofs.lemmas.Bool.{cases_lt}
 use Rattle.std.proofs.lemmas.Option.{slice_get_past}
 use Rattle.std.proofs.lemmas.List.{length-append, length-take, length-take-le, length-drop, set_split, take_all, take_more}
 use Rattle.shelf.proofs.Cuts.{slice_get-drop, slice_get-take}
-use Rattle.shelf_rows.specs.Rows.{overwritten}
+use Rattle.shelf.specs.Rows.{overwritten}
 
 module _ {T : Type 0} where
   -- columns that have the same in every row are the same
-  rows_determine : (xs ys : List T) → ((i : ℕ) → slice_get xs i ≡ slice_get ys i) → xs ≡ ys
+  pub rows_determine : (xs ys : List T) → ((i : ℕ) → slice_get xs i ≡ slice_get ys i) → xs ≡ ys
   rows_determine [] [] h = refl
   rows_determine [] (y ∷ ys) h = let e = h zero in absurd (grind arith)
   rows_determine (x ∷ xs) [] h = let e = h zero in absurd (grind arith)

@@ -4,9 +4,9 @@ use Rattle.std.proofs.lemmas.List.{take_all}
 use Rattle.std.proofs.lemmas.Option.{get_or_from_slice_get}
 use Rattle.shelf.specs.Meaning.{IsShelf, Meaning, column, has_row, symbol_at, with_row, with_symbol}
 use Rattle.shelf.proofs.Meanings.{change-same, symbol_at_there}
-use Rattle.shelf_rows.specs.Rows.{has_rows, overwritten, rows_at, rows_read, with_rows, with_stretch}
-use Rattle.shelf_rows.proofs.Columns.{overwritten-more, overwritten_all, overwritten_none}
-use Rattle.shelf_rows.proofs.Rows.{changed_twice, column_there, row_read, rows_counted, rows_read_there}
+use Rattle.shelf.specs.Rows.{has_rows, overwritten, rows_at, rows_read, with_rows, with_stretch}
+use Rattle.shelf.proofs.Columns.{overwritten-more, overwritten_all, overwritten_none}
+use Rattle.shelf.proofs.Rows.{changed_twice, column_there, row_read, rows_counted, rows_read_there}
 
 module _ {T : Type 0} (m : Meaning T) (b from : ℕ) where
   pub write_none : with_rows m b from [] ≡ m

@@ -1,7 +1,7 @@
 -- What holds of rows that are read and written together, on every shelf. Assumes nothing.
 use Rattle.std.specs.Prelude.{◌≡◌, ◌≢◌, ℕ, ◌+◌, ◌-◌, ◌≤◌, ◌<◌, ◌⊎◌, true, false, List, ◌++◌, length, slice_get}
 use Rattle.shelf.specs.Meaning.{IsShelf, Meaning, box_count, column, is_standing, symbol_at}
-use Rattle.shelf_rows.specs.Rows.{has_rows, rows_at, with_rows}
+use Rattle.shelf.specs.Rows.{has_rows, rows_at, with_rows}
 
 -- n rows of box b from row `from` on and k rows of box d from row `other` on have none in common
 abbrev pub Apart : ℕ → ℕ → ℕ → ℕ → ℕ → ℕ → Type 0
