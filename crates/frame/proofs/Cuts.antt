@@ -7,7 +7,8 @@ use Rattle.std.proofs.lemmas.Bool.{cases_lt}
 use Rattle.std.proofs.lemmas.Option.{slice_get_past}
 use Rattle.shelf.specs.Meaning.{in_place, nothing, unless_standing, with_place, with_row}
 use Rattle.shelf.specs.Rows.{overwritten, with_stretch}
-use Rattle.shelf.proofs.Columns.{length-overwritten, range_after, range_before, rows_determine, slice_get-after, slice_get-before, slice_get-drop, slice_get-take, slice_get-within}
+use Rattle.shelf.proofs.Columns.{length-overwritten, range_after, range_before, rows_determine, slice_get-after, slice_get-before, slice_get-within}
+use Rattle.shelf.proofs.Cuts.{slice_get-drop, slice_get-take}
 use Rattle.frame.specs.Layouts.{box_of, cut, filled}
 
 pub in_place-cut : {T : Type 0} (l i : ℕ) (marks : List Bool) (xs : List T) → in_place (cut l marks xs) i ≡ box_of (slice_index_or marks i false) (take l (drop (i * l) xs))
