@@ -1,5 +1,5 @@
 -- Lemmas on a box that is renewed, and on one that is put in before. Assumes nothing.
-use Rattle.std.proofs.Common.{◌≡◌, ◌≢◌, ℕ, zero, suc, ◌+◌, ◌-◌, ◌*◌, ◌^◌, ◌<◌, ◌≤◌, ◌⊎◌, true, false, ◌&&◌, ◌||◌, ◌==◌, if◌then◌else◌, nat_le, nat_lt, List, ◌++◌, map, length, replicate, slice_get, slice_index_or, Some, is_some, sym, refl, ap, ap₂, ◌∙◌, subst, inl, inr, mul-le-mul_right, pow-suc, arith, tests}
+use Rattle.std.proofs.Common.{◌≡◌, ◌≢◌, ℕ, zero, suc, ◌+◌, ◌-◌, ◌*◌, ◌^◌, ◌<◌, ◌≤◌, ◌⊎◌, true, false, ◌&&◌, ◌||◌, ◌==◌, if◌then◌else◌, nat_le, nat_lt, List, ◌++◌, map, length, replicate, slice_get, slice_index_or, Some, is_some, sym, refl, ap, ap₂, ◌∙◌, subst, inl, inr, arith, tests}
 use Rattle.std.specs.Option.{IsSomeAnd}
 use Rattle.std.proofs.lemmas.Bool.{cases_eq}
 use Rattle.std.proofs.lemmas.List.{length-map, map-append, get_or_append_left}
@@ -16,17 +16,6 @@ use Rattle.shelf.specs.Rows.{rows_at}
 use Rattle.stripe.specs.Stripes.{OnlyStripe, has_stripe, held, stands}
 use Rattle.stripe.proofs.Held.{held_number, held_same}
 use Rattle.renewing.specs.Renewals.{HalvesOf, OthersHold, NewBox, Renewed, others_stand}
-
--- the halves leave room for a column in a buffer for a file
-pub room : (m : ℕ) → 1 ≤ m → (3 * m + 1) * 2 ^ (m - 1) + 2 ^ m ≤ 3 * m * 2 ^ m
-room zero h = absurd (omega arith)
-room (suc k) h =
-    let twice : 2 ^ suc k ≡ 2 * 2 ^ k = omega (arith, pow-suc 2 k) in
-    let p = 2 ^ k in
-    let less : suc k - 1 ≡ k = omega arith in
-    let e : 2 ^ (suc k - 1) ≡ p = ap (λ n. 2 ^ n) less in
-    let one : 1 * p ≤ suc k * p = mul-le-mul_right p h in
-    rw e (rw twice (omega (arith, one)))
 
 -- the lost box is none of the helpers
 not_lost : (lost h : ℕ) → 1 ≤ lost → suc (if nat_lt h (lost - 1) then h else suc h) ≢ lost
