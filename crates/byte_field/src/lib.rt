@@ -103,6 +103,8 @@ impl Sums for Byte {
 
     ghost marks_agree = { refl };
 
+    fn takes_few_bytes() {}
+
     fn zero() -> Byte {
         Byte(0)
     }

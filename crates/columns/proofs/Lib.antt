@@ -1,3 +1,4 @@
+pub mod Mids
 pub mod Names
 pub mod Shares
 pub mod Sides

@@ -1,21 +1,16 @@
 -- Lemmas on the halves that boxes of a shelf send. Assumes nothing.
-use Rattle.std.proofs.Common.{◌≡◌, ◌≢◌, ℕ, zero, suc, ◌+◌, ◌-◌, ◌*◌, ◌^◌, ◌<◌, ◌≤◌, Bool, true, List, map, length, slice_index_or, Option, Some, is_some, if◌then◌else◌, nat_lt, sym, ap, ap₂, ◌∙◌, inl, inr, arith, tests, rules, mul-le-mul_right}
+use Rattle.std.proofs.Common.{◌≡◌, ◌≢◌, ℕ, zero, suc, ◌+◌, ◌-◌, ◌*◌, ◌^◌, ◌<◌, ◌≤◌, Bool, true, List, map, length, slice_index_or, if◌then◌else◌, nat_lt, sym, ap, ap₂, ◌∙◌, inl, inr, arith, tests, rules, mul-le-mul_right}
 use Rattle.std.proofs.lemmas.Bool.{cases_order}
 use Rattle.std.proofs.lemmas.List.{take-map, drop-map, length-map, map-append, places}
 use Rattle.std.proofs.lemmas.Nat.{mul-add-lt}
 use borrow.Rule.Slice.PartMut.{put_mid}
 use Rattle.field.specs.Symbols.{Symbols}
-use Rattle.boxes.specs.Pairs.{RowsOfPair}
-use Rattle.code.specs.Blocks.{half}
-use Rattle.code.specs.Codes.{full, half_for, helper, kind, shift}
+use Rattle.code.specs.Codes.{full, half_for, helper}
 use Rattle.code.specs.Contents.{Holds, at, parts}
-use Rattle.code.specs.Rows.{lower}
-use Rattle.code.specs.declared.Kind.{Kind}
-use Rattle.shelf.specs.Meaning.{IsShelf, Meaning, has_row, is_standing, symbol_at}
-use Rattle.shelf.proofs.Meanings.{symbol_at_there}
-use Rattle.shelf_rows.specs.Rows.{has_rows, rows_at}
+use Rattle.shelf.specs.Meaning.{Meaning, is_standing}
+use Rattle.shelf.specs.Rows.{has_rows, rows_at}
 use Rattle.stripe.specs.Stripes.{has_stripe, held, stands}
-use Rattle.stripe.proofs.Held.{at_row, held_number, stripe_rows}
+use Rattle.stripe.proofs.Held.{held_number, stripe_rows}
 use Rattle.renewing.specs.Renewals.{HalvesOf, others_stand}
 
 -- each of the other boxes stands
@@ -29,10 +24,6 @@ other_stands up x (suc k) b e h n =
     ]
 
 module _ {T : Type 0} (s : Meaning T) where
-  -- what is fetched from a row that is there
-  pub is_there : (b a : ℕ) (o : Option T) → IsShelf s → has_row s b a ≡ true → o ≡ symbol_at s b a → is_some o ≡ true
-  is_there b a o k h e = ap is_some (e ∙ (symbol_at_there s k b a h).1)
-
   -- so has each helper the rows of the stripe
   pub helper_rows : (m from lost h b : ℕ) → has_stripe m from s ≡ true → others_stand (stands s) (lost - 1) (3 * m + 2) ≡ true → h < 3 * m + 1
       → b ≡ suc (if nat_lt h (lost - 1) then h else suc h) → has_rows s b from (2 ^ m) ≡ true
@@ -44,17 +35,6 @@ module _ {T : Type 0} (s : Meaning T) where
       stripe_rows m from s b e (ap (is_standing s) r ∙ other_stands (stands s) x (3 * m + 2) place o below other)
 
 module _ (Y : Symbols) {T : Type 0} (v : T → Y.Symbol) where
-  -- a number of a half, from the two symbols of its pair
-  pub number_of : (m x from b j low high : ℕ) (u : Kind) (s t : Meaning T) (y z r : T) → RowsOfPair m (shift (full Y m) x) j low high → u ≡ kind (full Y m) x → t ≡ s
-      → symbol_at s b (from + low) ≡ Some y → symbol_at t b (from + high) ≡ Some z → v r ≡ half Y.ring u (v y) (v z)
-      → v r ≡ half_for (full Y m) x (at Y v (rows_at s b from (2 ^ m))) j
-  number_of m x from b j low high u s t y z r rows eu et ey ez er =
-      let C = at Y v (rows_at s b from (2 ^ m)) in
-      let first : v y ≡ C (lower (shift (full Y m) x) j) = sym (at_row Y v s b from (2 ^ m) low y (omega (arith, rows.rising, rows.bound)) ey) ∙ ap C rows.is_low in
-      let second : v z ≡ C (lower (shift (full Y m) x) j + 2 ^ shift (full Y m) x) =
-      sym (at_row Y v s b from (2 ^ m) high z rows.bound (ap (λ w. symbol_at w b (from + high)) (sym et) ∙ ez)) ∙ ap C rows.is_high in
-      er ∙ (λ i. half Y.ring (eu i) (first i) (second i))
-
   -- a half, by the box's number
   pub half_sent : (m from x b : ℕ) (s t : Meaning T) (xs : List T) → 1 ≤ b → t ≡ s → Holds Y v (2 ^ (m - 1)) xs (half_for (full Y m) x (at Y v (rows_at t b from (2 ^ m))))
       → Holds Y v (2 ^ (m - 1)) xs (half_for (full Y m) x (held Y v m from s (b - 1)))
