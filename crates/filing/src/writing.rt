@@ -11,7 +11,6 @@ use columns::{Parity, parity_column};
 use field::Sums;
 use refusal::{Refusal, fitting};
 use shelf::Shelf;
-use shelf_rows::write_rows;
 use stripe::{Stripe, on_shelf};
 
 // The column that the parity box in place b holds of a file.
@@ -49,13 +48,13 @@ pub(crate) fn write_box<F: Sums, S: Shelf<Symbol = F>>(
     let size = &stripe.cabinet.size;
     let rows = size.rows();
     if b < size.boxes() {
-        write_rows(shelf, b + 1, stripe.from, &file[b * rows..(b + 1) * rows]);
+        shelf.write_rows(b + 1, stripe.from, &file[b * rows..(b + 1) * rows]);
     } else {
         F::takes_few_bytes();
         let mut symbols = [F::zero(); MOST_ROWS];
         let column = &mut symbols[..rows];
         parity_at(&stripe.cabinet, file, b, column);
-        write_rows(shelf, b + 1, stripe.from, column);
+        shelf.write_rows(b + 1, stripe.from, column);
     }
 }
 

@@ -43,7 +43,7 @@ pub struct Gathering<F: Sums> {
 // A gathering that has heard every helper.
 #[derive(Drop)]
 pub struct Complete<F: Sums> {
-    pub gathering: Gathering<F>,
+    gathering: Gathering<F>,
     ghost whole: { missing (3 * size_of gathering + 2) (lost_box gathering) (heard_by (flags gathering)) ≡ false },
 }
 

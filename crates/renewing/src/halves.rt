@@ -4,7 +4,7 @@ ghost use Rattle.code.specs.Codes.{full, half_for, helper as helper_of};
 ghost use Rattle.code.specs.Contents.{Holds, at, parts};
 ghost use Rattle.refusal.specs.Refusals.{earliest, no_box, no_helper, parity_box, refusal, wrong_lengths};
 ghost use Rattle.renewing.specs.Renewals.{HalvesOf, others_stand};
-ghost use Rattle.shelf_rows.specs.Rows.{has_rows, rows_at};
+ghost use Rattle.shelf.specs.Rows.{has_rows, rows_at};
 ghost use Rattle.stripe.specs.Reasons.{box_out};
 ghost use Rattle.stripe.specs.Stripes.{has_stripe, held, no_stripe, stands};
 
@@ -13,12 +13,11 @@ use columns::half;
 use field::Sums;
 use refusal::{Refusal, fitting, helping, holding_data, numbered, refuse_if};
 use shelf::Shelf;
-use shelf_rows::read_rows;
 use stripe::{Stripe, on_shelf};
 
 // Takes the half of a standing box for a lost data box, and tells how many
 // numbers that is.
-#[tactic(auto, using(shelf_rows::proofs::Rows::rows_read_there))]
+#[tactic(auto, using(shelf::proofs::Rows::rows_read_there))]
 fn take_half<F: Sums, S: Shelf<Symbol = F>>(
     shelf: &mut S,
     stripe: &Stripe<F>,
@@ -39,7 +38,7 @@ fn take_half<F: Sums, S: Shelf<Symbol = F>>(
     let size = &stripe.cabinet.size;
     let mut symbols = [F::zero(); MOST_ROWS];
     let column = &mut symbols[..size.rows()];
-    read_rows(shelf, helper, stripe.from, column);
+    shelf.read_rows(helper, stripe.from, column);
     half(size.m, lost, column, into).unwrap();
     into.len()
 }

@@ -6,7 +6,7 @@ ghost use Rattle.code.specs.Contents.{at, parts};
 ghost use Rattle.refusal.specs.Refusals.{earliest, no_box, refusal, wrong_lengths};
 ghost use Rattle.renewing.specs.Renewals.{NewBox, Renewed, not_renewable, others_stand};
 ghost use Rattle.shelf.specs.Meaning.{column, is_standing};
-ghost use Rattle.shelf_rows.specs.Rows.{has_rows, rows_at};
+ghost use Rattle.shelf.specs.Rows.{has_rows, rows_at};
 ghost use Rattle.stripe.specs.Reasons.{box_out, box_stands};
 ghost use Rattle.stripe.specs.Stripes.{OnlyStripe, has_stripe, no_stripe, stands};
 
@@ -17,7 +17,6 @@ use columns::restore;
 use field::Quotients;
 use refusal::{Refusal, fitting, numbered, refuse_if};
 use shelf::Shelf;
-use shelf_rows::write_rows;
 use stripe::{Stripe, on_shelf};
 
 // Gives the lost box the column that the halves give.
@@ -41,7 +40,7 @@ fn give_column<F: Quotients, S: Shelf<Symbol = F>>(
     let mut symbols = [F::zero(); MOST_ROWS];
     let column = &mut symbols[..size.rows()];
     restore(size.m, lost, halves, column).unwrap();
-    write_rows(shelf, lost, stripe.from, column);
+    shelf.write_rows(lost, stripe.from, column);
 }
 
 // The restoring step, where all boxes stand and the lost one may hold anything.

@@ -2,8 +2,8 @@
 use Rattle.std.proofs.Common.{◌≡◌, ◌≢◌, ℕ, ◌+◌, ◌^◌, ◌<◌, ◌≤◌, ◌⊎◌, true, List, length, refl, sym, ap, ◌∙◌, subst, inl, inr, ⊎_elim, arith}
 use Rattle.std.proofs.lemmas.Bool.{cases_eq}
 use Rattle.shelf.specs.Meaning.{IsShelf, Meaning, column, symbol_at, symbol_of}
-use Rattle.shelf_rows.specs.Rows.{has_rows, rows_at, with_rows}
-use Rattle.shelf_rows.proofs.Rows.{box_count_stays, column_stays, read_back, row_stays, standing_stays}
+use Rattle.shelf.specs.Rows.{has_rows, rows_at, with_rows}
+use Rattle.shelf.proofs.Rows.{box_count_stays, column_stays, read_back, row_stays, standing_stays}
 use Rattle.stripe.specs.Stripes.{OnlyStripe}
 
 module _ {T : Type 0} (from b : ℕ) (s t : Meaning T) (xs : List T) (written : t ≡ with_rows s b from xs) where
