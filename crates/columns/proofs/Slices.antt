@@ -18,7 +18,7 @@ module _ (Y : Symbols) {S : Type 0} (value : S → Y.Symbol) where
   read xs i r h e = ap value e ∙ element xs i r h
 
   -- an element that is written, and the others
-  written : (xs : List S) (i : ℕ) (r : S) → i < length xs → at Y value (slice_set xs i r) i ≡ value r
+  pub written : (xs : List S) (i : ℕ) (r : S) → i < length xs → at Y value (slice_set xs i r) i ≡ value r
   written xs i r h =
       let l : i < length (map value xs) = simp length-map h in
       ap (λ ys. slice_index_or ys i Y.ring.zero) (map-set value xs i r) ∙ get_or-set_same (map value xs) i (value r) Y.ring.zero l

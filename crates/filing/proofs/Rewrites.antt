@@ -1,6 +1,6 @@
 -- What writing a column of a file to a box of a stripe leads to. Assumes nothing.
 use Rattle.std.proofs.Common.{◌≡◌, ℕ, suc, ◌+◌, ◌^◌, ◌<◌, Bool, true, false, ◌&&◌, ◌||◌, ◌==◌, nat_lt, List, length, refl, sym, ap, ap₂, ◌∙◌, subst, inl, inr, add-one, arith, true≢false}
-use Rattle.std.proofs.lemmas.Bool.{cases_eq}
+use Rattle.std.proofs.lemmas.Bool.{cases_eq, or_parts}
 use Rattle.std.proofs.lemmas.Bool.Decides.{nat_tests}
 use Rattle.field.specs.Symbols.{Symbols}
 use Rattle.code.specs.Codes.{File, column, full}
@@ -8,7 +8,7 @@ use Rattle.code.specs.Contents.{Holds, at}
 use Rattle.shelf.specs.Meaning.{IsShelf, Meaning, is_standing}
 use Rattle.shelf.specs.Rows.{rows_at, rows_of, with_rows}
 use Rattle.stripe.specs.Stripes.{has_stripe, held, stands}
-use Rattle.stripe.proofs.Held.{stripe_rows}
+use Rattle.stripe.proofs.Held.{only_then, stripe_rows}
 use Rattle.stripe.proofs.Writes.{only_written, others_stay, rows_hold}
 use Rattle.filing.specs.Rewriting.{Rewritten}
 
@@ -42,22 +42,13 @@ module _ (Y : Symbols) {T : Type 0} (v : T → Y.Symbol) (m from : ℕ) (f : Fil
       rows = rows_hold from (suc b) s t xs is m long i (stripe_rows m from s (suc b) there stand)
 
   -- some boxes, and then others
-  pub rewritten_then : (p q r : ℕ → Bool) (s s1 s2 : Meaning T) → ((d : ℕ) → r d ≡ (p d || q d)) → All p s s1 → All q s1 s2 → All r s s2
+  rewritten_then : (p q r : ℕ → Bool) (s s1 s2 : Meaning T) → ((d : ℕ) → r d ≡ (p d || q d)) → All p s s1 → All q s1 s2 → All r s s2
   rewritten_then p q r s s1 s2 like one two = record {
-    only = record {
-      boxes = two.only.boxes ∙ one.only.boxes;
-      rows = two.only.rows ∙ one.only.rows;
-      stand = λ b. two.only.stand b ∙ one.only.stand b;
-      elsewhere = λ b a h. two.only.elsewhere b a h ∙ one.only.elsewhere b a h;
-    };
+    only = only_then m from s s1 s2 one.only two.only;
     holds = λ d e a l. by d a l (sym (like d) ∙ e) (q d) refl;
-    others = λ d e. let n = neither (p d) (q d) (sym (like d) ∙ e) in two.others d n.1 ∙ one.others d n.0;
+    others = λ d e. let n = or_parts (p d) (q d) (sym (like d) ∙ e) in two.others d n.1 ∙ one.others d n.0;
   }
     where
-      neither : (t u : Bool) → (t || u) ≡ false → (t ≡ false) × (u ≡ false)
-      neither true u e = absurd (true≢false e)
-      neither false u e = (refl, e)
-
       first : (t : Bool) → (t || false) ≡ true → t ≡ true
       first true e = refl
       first false e = absurd (true≢false (sym e))

@@ -1,12 +1,13 @@
 -- Lemmas on the halves that boxes of a shelf send. Assumes nothing.
-use Rattle.std.proofs.Common.{◌≡◌, ◌≢◌, ℕ, zero, suc, ◌+◌, ◌-◌, ◌*◌, ◌^◌, ◌<◌, ◌≤◌, Bool, true, List, map, length, slice_index_or, if◌then◌else◌, nat_lt, sym, ap, ap₂, ◌∙◌, inl, inr, arith, tests, rules, mul-le-mul_right}
+use Rattle.std.proofs.Common.{◌≡◌, ◌≢◌, ℕ, zero, suc, ◌+◌, ◌-◌, ◌*◌, ◌^◌, ◌<◌, ◌≤◌, Bool, true, List, map, length, slice_index_or, if◌then◌else◌, nat_lt, sym, ap, ap₂, ◌∙◌, inl, inr, arith, tests, mul-le-mul_right}
 use Rattle.std.proofs.lemmas.Bool.{cases_order}
-use Rattle.std.proofs.lemmas.List.{take-map, drop-map, length-map, map-append, places}
+use Rattle.std.proofs.lemmas.List.{length-map}
 use Rattle.std.proofs.lemmas.Nat.{mul-add-lt}
 use borrow.Rule.Slice.PartMut.{put_mid}
 use Rattle.field.specs.Symbols.{Symbols}
 use Rattle.code.specs.Codes.{full, half_for, helper}
 use Rattle.code.specs.Contents.{Holds, at, parts}
+use Rattle.columns.proofs.Mids.{map_mid, mid_before, mid_inside}
 use Rattle.shelf.specs.Meaning.{Meaning, is_standing}
 use Rattle.shelf.specs.Rows.{has_rows, rows_at}
 use Rattle.stripe.specs.Stripes.{has_stripe, held, stands}
@@ -14,7 +15,7 @@ use Rattle.stripe.proofs.Held.{held_number, stripe_rows}
 use Rattle.renewing.specs.Renewals.{HalvesOf, others_stand}
 
 -- each of the other boxes stands
-pub other_stands : (up : ℕ → Bool) (x n b : ℕ) → others_stand up x n ≡ true → b < n → b ≢ x → up b ≡ true
+other_stands : (up : ℕ → Bool) (x n b : ℕ) → others_stand up x n ≡ true → b < n → b ≢ x → up b ≡ true
 other_stands up x zero b e h n = absurd (omega arith)
 other_stands up x (suc k) b e h n =
     elim (cases_order b k) [
@@ -41,21 +42,12 @@ module _ (Y : Symbols) {T : Type 0} (v : T → Y.Symbol) where
   half_sent m from x b s t xs first same h a l =
       h a l ∙ ap (λ C. half_for (full Y m) x C a) (ap (λ w. at Y v (rows_at w b from (2 ^ m))) same ∙ sym (held_number Y v m from s b first))
 
-  map_mid : (a k : ℕ) (xs ys : List T) → map v (put_mid a k xs ys) ≡ put_mid a k (map v xs) (map v ys)
-  map_mid a k xs ys = search (map-append, take-map, drop-map)
-
-  mid_inside : {X : Type 0} (a k : ℕ) (xs ys : List X) (i : ℕ) (d : X) → a ≤ length xs → i < length ys → slice_index_or (put_mid a k xs ys) (a + i) d ≡ slice_index_or ys i d
-  mid_inside a k xs ys i d h l = search (rules, places)
-
-  mid_before : {X : Type 0} (a k : ℕ) (xs ys : List X) (i : ℕ) (d : X) → a ≤ length xs → i < a → slice_index_or (put_mid a k xs ys) i d ≡ slice_index_or xs i d
-  mid_before a k xs ys i d h l = search (rules, places)
-
   -- one half more is taken, into part h of n numbers
   halves_more : (n h s k : ℕ) (xs ys : List T) (G : ℕ → ℕ → Y.Symbol) → s ≡ h * n → k ≡ n → h * n + n ≤ length xs → length ys ≡ n
       → ((i : ℕ) → i < h → (j : ℕ) → j < n → parts Y v n xs i j ≡ G i j) → ((j : ℕ) → j < n → at Y v ys j ≡ G h j)
       → (i : ℕ) → i < h + 1 → (j : ℕ) → j < n → parts Y v n (put_mid s k xs ys) i j ≡ G i j
   halves_more n h s k xs ys G es ek fits size before here i l j below =
-      ap (λ zs. slice_index_or zs (i * n + j) Y.ring.zero) (map_mid s k xs ys)
+      ap (λ zs. slice_index_or zs (i * n + j) Y.ring.zero) (map_mid v s k xs ys)
       ∙ elim (cases_order i h) [
         | inl e ↦
             let q : i * n + j ≡ s + j = omega (arith, ap (λ z. z * n) e) in
