@@ -16,7 +16,7 @@ use Rattle.vault_laws.proofs.Renewals.{entry}
 
 module _ (Y : Symbols) where
   -- the calls of a history are the calls
-  calls_are : (l : Ledger Y) (calls : List (LedgerCall Y)) → map (λ e. e.0) (history Y l calls) ≡ calls
+  pub calls_are : (l : Ledger Y) (calls : List (LedgerCall Y)) → map (λ e. e.0) (history Y l calls) ≡ calls
   calls_are l [] = refl
   calls_are l (call ∷ calls) = ap (λ cs. call ∷ cs) (calls_are (step Y l call).next calls)
 
