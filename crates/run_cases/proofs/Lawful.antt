@@ -25,7 +25,7 @@ use Rattle.vault_laws.specs.Laws.{TookHalves, VaultLaw}
 use Rattle.vault_laws.proofs.Declining.{calls_are as history_calls}
 use Rattle.vault_runs.specs.Entries.{calls, replies, reply}
 use Rattle.vault_runs.specs.declared.Entry.{Entry}
-use Rattle.run_cases.specs.Numbers.{Another, AreWorked, CameAsWorked, DeclinedByLeast, HoldsWorked, RenewedFromFour, came_to, in_symbols, shown, small_code}
+use Rattle.run_cases.specs.Numbers.{Another, AreWorked, CameAsWorked, WorkedByLeast, HoldsWorked, RenewedFromFour, came_to, in_symbols, shown, small_code}
 use Rattle.run_cases.proofs.Columns.{not_out, out_shown, stands_with}
 use Rattle.run_cases.proofs.Told.{calls_are, numbers_are, value, worked_so_far}
 use Rattle.run_cases.proofs.Worked.{column_of, halves, ledger, past, renewed, start, told}
@@ -80,7 +80,7 @@ module _ (n : ℕ) (s : Meaning Five) (asked made : List (Entry Five)) (size : O
   pub agrees : Agrees five_symbols value (ledger n) size s'
   agrees = subst (λ (l : Ledger five_symbols). Agrees five_symbols value l size s') (ap₂ (final five_symbols) starts calls_told) law.as_ledger.agrees
 
-  pub declined : Answers worked → DeclinedByLeast n
+  pub declined : Answers worked → WorkedByLeast n
   declined all before after call why buffer e =
       let cs = map in_symbols (map (λ p. p.0) before) in
       let o = step five_symbols (final five_symbols start cs) (in_symbols call) in

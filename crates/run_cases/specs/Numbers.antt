@@ -5,9 +5,9 @@ use Rattle.field.specs.Below.{Below}
 use Rattle.code.specs.Codes.{Code, File, column, full, half_for, helper}
 use Rattle.prime.specs.Five.{five_number, five_symbols}
 use Rattle.prime.specs.declared.five.Five.{Five}
+use Rattle.refusal.specs.declared.Refusal.{Refusal}
 use Rattle.shelf.specs.Meaning.{Meaning, box_count}
 use Rattle.shelf.specs.Meaning.{column as box_column}
-use Rattle.refusal.specs.declared.Refusal.{Refusal}
 use Rattle.ledger.specs.Calls.{call_map, lent}
 use Rattle.ledger.specs.Laws.{Least}
 use Rattle.ledger.specs.Ledgers.{LedgerCall, Ledger, final, fresh}
@@ -41,8 +41,8 @@ pub record CameAsWorked (n : ℕ) (entries : List (Entry Five)) : Type 0 where
   pub replies : map came_to entries ≡ map (λ p. p.1) (take n worked)
 
 -- each of the first n that was declined was declined by the least number of those that fit
-abbrev pub DeclinedByLeast : ℕ → Type 0
-DeclinedByLeast n =
+abbrev pub WorkedByLeast : ℕ → Type 0
+WorkedByLeast n =
     (before after : List (Call ℕ (List ℕ) × Reply)) (call : Call ℕ (List ℕ)) (why : Refusal) (buffer : List ℕ) → take n worked ≡ before ++ (call, (Err why, buffer)) ∷ after
     → Least five_symbols (ledger_after (map (λ p. p.0) before)) (in_symbols call) why
 

@@ -5,7 +5,7 @@
 ghost use Rattle.std.specs.Prelude.{◌≡◌, ℕ, List, [], ◌∷◌, Ok, Some, length, map};
 ghost use Rattle.ledger_cases.specs.Worked.{amended};
 ghost use Rattle.prime.specs.Five.{five_number};
-ghost use Rattle.run_cases.specs.Numbers.{AreWorked, CameAsWorked, DeclinedByLeast, HoldsThree, HoldsWorked, RenewedFromFour, shown};
+ghost use Rattle.run_cases.specs.Numbers.{AreWorked, CameAsWorked, HoldsThree, HoldsWorked, RenewedFromFour, WorkedByLeast, shown};
 
 use ledger_cases::worked_run;
 use prime::five::Five;
@@ -20,7 +20,7 @@ pub fn run_worked<S: Shelf<Symbol = Five>>(shelf: S, entries: &mut [Entry<Five>]
     // Each comes to what was worked out.
     ensures replies { (n : ℕ) → AreWorked n (S.meaning shelf) entries.old → CameAsWorked n entries.new }
     // Each that is declined is declined by the least number of those that fit.
-    ensures declined { (n : ℕ) → AreWorked n (S.meaning shelf) entries.old → DeclinedByLeast n }
+    ensures declined { (n : ℕ) → AreWorked n (S.meaning shelf) entries.old → WorkedByLeast n }
     // The renewal took four numbers, and none of them can be spared.
     ensures renewed { AreWorked 36 (S.meaning shelf) entries.old → RenewedFromFour entries.new }
     // After 36 calls boxes 1 and 4 are out, and the others hold their columns of the amended file.
