@@ -7,6 +7,9 @@ ghost use Rattle.ledger_cases.specs.Worked.{amended};
 ghost use Rattle.prime.specs.Five.{five_number};
 ghost use Rattle.run_cases.specs.Numbers.{AreWorked, CameAsWorked, HoldsThree, HoldsWorked, RenewedFromFour, WorkedByLeast, shown};
 
+#[cfg(test)]
+mod flat_shelf;
+
 use ledger_cases::worked_run;
 use prime::five::Five;
 use refusal::Refusal;

@@ -18,8 +18,8 @@ module _ (Y : Symbols) {T : Type 0} (value : T → Y.Symbol) (cabinets : Cabinet
       → Run Y value calls replies None s size' s' → VaultLaw Y value s calls replies size' s'
   law s s' calls replies size' run = record {
     as_ledger = as_ledger Y value s calls replies size' s' run;
-    declined = declined Y value s calls replies size' s' run;
     newest = newest_wins Y value s calls replies size' s' run;
     any_boxes = any_boxes Y value cabinets s calls replies size' s' run;
     renewals = renewals Y value cabinets s calls replies size' s' run;
+    declined = declined Y value s calls replies size' s' run;
   }

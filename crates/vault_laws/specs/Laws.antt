@@ -101,7 +101,7 @@ module _ (Y : Symbols) {T : Type 0} (value : T → Y.Symbol) where
 
     pub record VaultLaw : Type 0 where
       pub as_ledger : AsLedger
-      pub declined : DeclinedByLeast
       pub newest : NewestWins
       pub any_boxes : AnyBoxes
       pub renewals : RenewedFromHalves
+      pub declined : DeclinedByLeast
