@@ -74,7 +74,8 @@ pub trait Shelf {
 
     // Copies rows of box b, from row `from` on and as many as the buffer is long,
     // into the buffer; refused, with nothing written, unless the box stands and
-    // has these rows. A shelf that can copy them at once says so in its own text.
+    // has these rows. The text here and below is for shelves that cannot copy rows
+    // at once.
     #[tactic(auto, using(crate::proofs::Turns::read_more, crate::proofs::Turns::read_there, crate::proofs::Turns::read_all))]
     fn read_rows(&mut self, b: usize, from: usize, out: &mut [Self::Symbol]) -> bool
         ensures answer { result ≡ has_rows (meaning self.old) b from (length out.old) }
