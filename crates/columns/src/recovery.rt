@@ -1,5 +1,5 @@
 // A lost column from the halves of all other boxes.
-ghost use Rattle.std.specs.Prelude.{◌≡◌, ℕ, suc, ◌+◌, ◌-◌, ◌*◌, ◌%◌, ◌^◌, ◌<◌, ◌≤◌, true, false, [], ◌∷◌, length, if◌then◌else◌, MatchResult, ◌≢◌};
+ghost use Rattle.std.specs.Prelude.{◌≡◌, ℕ, suc, ◌+◌, ◌-◌, ◌*◌, ◌^◌, ◌<◌, ◌≤◌, true, false, [], ◌∷◌, length, if◌then◌else◌, MatchResult, ◌≢◌};
 ghost use Rattle.code.specs.Blocks.{◌∸◌, block as blocked};
 ghost use Rattle.code.specs.Codes.{full, Given, image, shift};
 ghost use Rattle.code.specs.Contents.{Holds, at, parts};
@@ -13,14 +13,15 @@ use code::Block;
 use field::{Quotients, Sums};
 use refusal::{Refusal, fitting, holding_data, numbered};
 
-// Two columns' worth of numbers lie in the lost column until it is known: one in
-// the lower rows of the pairs along the lost box's digit, one in the upper rows.
-// First the halves of the two parities, and then, box by box, less the half of
-// the box's column and of its image, the halves of the lost column and its image.
+// Until it is known, the lost column holds two halves: one in the lower rows of the
+// pairs along the lost box's digit, one in the upper rows. They begin as the halves
+// of the two parities; less the half of each other data box's column, and of its
+// image, they are those of the lost column and of its image.
 
-// What the two rows of a pair along another digit lose to a box: in lower rows
-// along the lost box's digit the numbers of the half, in upper ones what the
-// box's block makes of them, since it acts on the half as on a column.
+// What a box of another direction takes off the two rows of a pair along its own
+// digit. Along the lost box's digit both are lower rows or both upper ones: from
+// lower rows the numbers of the half; from upper ones what the block makes of them,
+// since it acts on the half as on a column.
 fn share<F: Sums>(along: &Digit, block: Block<F>, half: &[F], low: usize, high: usize) -> (F, F)
     requires pairs { length half.now ≡ 2 ^ (along.now.digits - 1) }
     requires low { low < 2 ^ along.now.digits }
@@ -49,8 +50,8 @@ fn subtract_pair<F: Sums>(column: &mut [F], low: usize, high: usize, numbers: (F
     column[high] = column[high].minus(numbers.1);
 }
 
-// Takes off the half of a box of the lost box's direction, and its multiple off
-// the upper rows.
+// Takes off what a box of the lost box's direction sent: its half off the lower
+// rows, the half times an eigenvalue off the upper ones.
 fn subtract_multiple<F: Sums>(along: &Digit, eigenvalue: F, half: &[F], column: &mut [F])
     requires pairs { length half.now ≡ 2 ^ (along.now.digits - 1) }
     requires rows { length column.old ≡ 2 ^ along.now.digits }

@@ -1,23 +1,41 @@
 // Rows of a box copied out and written.
+use crate::plain::Plain;
 use flat::Flat;
 use image::Image;
+use joined::Joined;
 use prime::words::Words;
 use shelf::Shelf;
+use std::process::Abort;
 
+// On a shelf of two boxes of four rows.
+fn copied<S: Shelf<Symbol = u8>>(rt: &impl Abort, shelf: &mut S) {
+    assert!(rt; shelf.insert(2, 9));
+    assert!(rt; shelf.write_rows(2, 1, &[5, 6]));
+    let mut out = [0; 3];
+    assert!(rt; shelf.read_rows(2, 1, &mut out));
+    assert_eq!(rt; out, [5, 6, 9]);
+    assert!(rt; shelf.write_rows(2, 3, &[8]));
+    assert!(rt; shelf.write_rows(2, 4, &[]));
+    assert!(rt; !shelf.write_rows(2, 3, &[1, 2]));
+    assert!(rt; !shelf.read_rows(1, 0, &mut out));
+    assert_eq!(rt; out, [5, 6, 9]);
+}
+
+// By a shelf's own text, by the trait's, and on the second side of two shelves.
 #[test]
 fn written_and_read(rt: HostRuntime) {
     let mut buffer = [0u8; 8];
-    {
-        let mut shelf = Flat::new(&mut buffer, 2, 4);
-        assert!(&rt; shelf.insert(2, 9));
-        assert!(&rt; shelf.write_rows(2, 1, &[5, 6]));
-        let mut out = [0; 3];
-        assert!(&rt; shelf.read_rows(2, 1, &mut out));
-        assert_eq!(&rt; out, [5, 6, 9]);
-        assert!(&rt; shelf.write_rows(2, 3, &[8]));
-        assert!(&rt; shelf.write_rows(2, 4, &[]));
-    }
+    copied(&rt, &mut Flat::new(&mut buffer, 2, 4));
     assert_eq!(&rt; buffer, [0, 0, 0, 0, 9, 5, 6, 8]);
+    let mut plain = [0u8; 8];
+    copied(&rt, &mut Plain::new(Flat::new(&mut plain, 2, 4)));
+    assert_eq!(&rt; plain, buffer);
+    let mut second = [0u8; 4];
+    copied(
+        &rt,
+        &mut Joined::new(Flat::new(&mut [0; 4], 1, 4), Flat::new(&mut second, 1, 4)),
+    );
+    assert_eq!(&rt; second, [9, 5, 6, 8]);
 }
 
 // A box that is out, no box, rows that do not fit: nothing changes.

@@ -8,6 +8,7 @@ use Rattle.vault_calls.specs.Calls.{Reply}
 use Rattle.vault_laws.specs.Laws.{VaultLaw}
 use Rattle.vault_laws.specs.Runs.{Run}
 use Rattle.vault_laws.proofs.AnyBoxes.{any_boxes}
+use Rattle.vault_laws.proofs.Declining.{declined}
 use Rattle.vault_laws.proofs.FileReads.{newest_wins}
 use Rattle.vault_laws.proofs.Followed.{as_ledger}
 use Rattle.vault_laws.proofs.Renewals.{renewals}
@@ -20,4 +21,5 @@ module _ (Y : Symbols) {T : Type 0} (value : T → Y.Symbol) (cabinets : Cabinet
     newest = newest_wins Y value s calls replies size' s' run;
     any_boxes = any_boxes Y value cabinets s calls replies size' s' run;
     renewals = renewals Y value cabinets s calls replies size' s' run;
+    declined = declined Y value s calls replies size' s' run;
   }

@@ -3,6 +3,7 @@ pub mod Amends
 pub mod AnyBoxes
 pub mod Buffers
 pub mod Counts
+pub mod Declining
 pub mod Determined
 pub mod FileReads
 pub mod Files

@@ -23,12 +23,12 @@ use Rattle.vault_laws.proofs.Followed.{past_is}
 
 module _ (Y : Symbols) where
   -- an entry of a history is what the ledger came to after the calls before it
-  record CameTo (l : Ledger Y) (before : List (Entry Y)) (call : LedgerCall Y) (r : Reply Y) : Type 0 where
-    earlier : List (LedgerCall Y)
-    are : before ≡ history Y l earlier
-    is : r ≡ (step Y (final Y l earlier) call).reply
+  pub record CameTo (l : Ledger Y) (before : List (Entry Y)) (call : LedgerCall Y) (r : Reply Y) : Type 0 where
+    pub earlier : List (LedgerCall Y)
+    pub are : before ≡ history Y l earlier
+    pub is : r ≡ (step Y (final Y l earlier) call).reply
 
-  entry : (before : List (Entry Y)) (l : Ledger Y) (calls : List (LedgerCall Y)) (call : LedgerCall Y) (r : Reply Y) (after : List (Entry Y))
+  pub entry : (before : List (Entry Y)) (l : Ledger Y) (calls : List (LedgerCall Y)) (call : LedgerCall Y) (r : Reply Y) (after : List (Entry Y))
       → history Y l calls ≡ before ++ (call, r) ∷ after → CameTo l before call r
   entry [] l [] call r after e = cc
   entry (x ∷ before) l [] call r after e = cc

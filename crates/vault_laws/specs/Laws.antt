@@ -1,5 +1,5 @@
 -- What holds of a vault after any calls, from its making on. Assumes nothing.
-use Rattle.std.specs.Prelude.{◌≡◌, ◌≢◌, ℕ, ◌+◌, ◌-◌, ◌*◌, ◌^◌, ◌<◌, ◌≤◌, true, List, ◌++◌, ◌∷◌, drop, length, map, Option, Some, None, Ok}
+use Rattle.std.specs.Prelude.{◌≡◌, ◌≢◌, ℕ, ◌+◌, ◌-◌, ◌*◌, ◌^◌, ◌<◌, ◌≤◌, true, List, ◌++◌, ◌∷◌, drop, length, map, Option, Some, None, Ok, Err}
 use Rattle.std.specs.List.{zip}
 use Rattle.field.specs.Symbols.{Symbols}
 use Rattle.code.specs.Codes.{Alike, HasHalves, full}
@@ -7,9 +7,11 @@ use Rattle.code.specs.Contents.{parts}
 use Rattle.code.specs.Laws.{NoneToSpare, Same}
 use Rattle.shelf.specs.Meaning.{Meaning, box_count}
 use Rattle.stripe.specs.Stripes.{held, stands}
+use Rattle.refusal.specs.declared.Refusal.{Refusal}
 use Rattle.ledger.specs.Calls.{out_count}
 use Rattle.ledger.specs.Histories.{Entry, size_in_force, told_file}
-use Rattle.ledger.specs.Ledgers.{Ledger, final, fresh}
+use Rattle.ledger.specs.Laws.{Least}
+use Rattle.ledger.specs.Ledgers.{LedgerCall, Ledger, final, fresh}
 use Rattle.ledger.specs.Ledgers.{replies as ledger_replies}
 use Rattle.ledger.specs.declared.calls.Answer.{Answer}
 use Rattle.ledger.specs.declared.calls.Answer.TheVariants.{Done, Count}
@@ -90,8 +92,16 @@ module _ (Y : Symbols) {T : Type 0} (value : T → Y.Symbol) where
         (before after : List (Entry Y)) (b : ℕ) (work buffer : List Y.Symbol) (taken : Answer)
         → past ≡ before ++ (Renew b work, record { answer = Ok taken; buffer = buffer }) ∷ after → TookHalves before b work buffer taken
 
+    -- every declined call was declined by the least number of those that fit, as the ledger stood after the calls before it
+    abbrev pub DeclinedByLeast : Type 0
+    DeclinedByLeast =
+        (before after : List (Entry Y)) (call : LedgerCall Y) (why : Refusal) (buffer : List Y.Symbol)
+        → past ≡ before ++ (call, record { answer = Err why; buffer = buffer }) ∷ after
+        → Least Y (final Y (fresh Y (box_count s) s.rows) (map (λ e. e.0) before)) call why
+
     pub record VaultLaw : Type 0 where
       pub as_ledger : AsLedger
       pub newest : NewestWins
       pub any_boxes : AnyBoxes
       pub renewals : RenewedFromHalves
+      pub declined : DeclinedByLeast
