@@ -1,10 +1,12 @@
 // Columns in lent slices: their sums, their images and their halves, one text for every field.
-ghost use Rattle.std.specs.Prelude.{◌≡◌, ℕ, ◌+◌, ◌-◌, ◌*◌, ◌^◌, ◌<◌, ◌≤◌, [], ◌∷◌, length, MatchResult};
+ghost use Rattle.std.specs.Prelude.{◌≡◌, ℕ, ◌+◌, ◌-◌, ◌*◌, ◌^◌, ◌<◌, ◌≤◌, true, false, [], ◌∷◌, length, MatchResult};
+ghost use Rattle.code.specs.Blocks.{block as blocked};
 ghost use Rattle.code.specs.Codes.{full, half_for, image};
 ghost use Rattle.code.specs.Contents.{Holds, added, at};
 ghost use Rattle.refusal.specs.Refusals.{earliest as first, few_marks, no_box, parity_box, refusal, wrong_lengths, wrong_size};
 
 use boxes::{Cabinet, Size, kind_at};
+use code::Block;
 use field::Sums;
 use refusal::{Refusal, fitting, holding_data, numbered};
 
@@ -32,18 +34,33 @@ pub(crate) fn add_rows<F: Sums>(sum: &mut [F], column: &[F])
     }
 }
 
-// Adds the image of the column of the data box in place b, pair by pair.
+// Adds what a block makes of a run: the rows i and i + weight are a pair, for i below the weight.
+fn add_run<F: Sums>(block: Block<F>, weight: usize, sum: &mut [F], column: &[F])
+    requires sums { length sum.old ≡ 2 * weight }
+    requires rows { length column.now ≡ 2 * weight }
+    ensures lower { (i : ℕ) → i < weight → at F.symbols F.value sum.new i ≡ F.symbols.ring.plus (at F.symbols F.value sum.old i) (blocked F.symbols.ring block.kind (F.value block.p) (F.value block.q) (at F.symbols F.value column.now i) (at F.symbols F.value column.now (i + weight)) false) }
+    ensures upper { (i : ℕ) → i < weight → at F.symbols F.value sum.new (i + weight) ≡ F.symbols.ring.plus (at F.symbols F.value sum.old (i + weight)) (blocked F.symbols.ring block.kind (F.value block.p) (F.value block.q) (at F.symbols F.value column.now i) (at F.symbols F.value column.now (i + weight)) true) }
+{
+    for i in 0..weight {
+        let (s, t) = block.apply(column[i], column[i + weight]);
+        sum[i] = sum[i].sum(s);
+        sum[i + weight] = sum[i + weight].sum(t);
+    }
+}
+
+// Adds the image of the column of the data box in place b, run by run: so the
+// rows that follow each other are done side by side.
 pub(crate) fn add_pairs<F: Sums>(cabinet: &Cabinet<F>, b: usize, sum: &mut [F], column: &[F])
     requires sums { length sum.old ≡ 2 ^ cabinet.now.size.m }
     requires rows { length column.now ≡ 2 ^ cabinet.now.size.m }
     ensures { Holds F.symbols F.value (2 ^ cabinet.now.size.m) sum.new (added F.symbols (at F.symbols F.value sum.old) (image (full F.symbols cabinet.now.size.m) b (at F.symbols F.value column.now))) }
 {
     let block = cabinet.block(b);
-    let digit = cabinet.size.digit(b);
-    for (low, high) in digit.pairs() {
-        let (s, t) = block.apply(column[low], column[high]);
-        sum[low] = sum[low].sum(s);
-        sum[high] = sum[high].sum(t);
+    let weight = cabinet.size.digit(b).weight();
+    let run = 2 * weight;
+    for r in 0..cabinet.size.rows() / run {
+        let start = r * run;
+        add_run(block, weight, &mut sum[start..start + run], &column[start..start + run]);
     }
 }
 

@@ -1,48 +1,52 @@
-use Rattle.std.proofs.Common.{◌<◌, length, ap, ◌∙◌, ap₂, arith, length-set}
-use Rattle.code.specs.Codes.{full, shift}
-use Rattle.code.specs.Contents.{at}
-use Rattle.code.specs.Rows.{pair_of}
-use Rattle.code.proofs.Images.{image_at_low, image_at_high}
-use Rattle.code.proofs.Pairing.{pair_lower, pair_upper}
+use Rattle.std.proofs.Common.{rules, ◌≡◌, ℕ, ◌+◌, ◌-◌, ◌*◌, ◌^◌, ◌<◌, ◌≤◌, length, refl, ap, ap₂, ◌∙◌, arith}
+use Rattle.code.specs.Codes.{full, image, shift}
+use Rattle.code.specs.Contents.{added, at}
 use Rattle.code.proofs.Theory.{shift_below}
-use Rattle.boxes.proofs.Weights.{rows_named}
-use Rattle.columns.proofs.Slices.{pairwise_more, pairwise_all, read, written_else}
+use Rattle.columns.proofs.Runs.{image_high, image_low, run_inside, run_more, runs_all}
+use Rattle.columns.proofs.Slices.{part}
 use Rattle.columns.proofs.column.add_pairs.Goals as goal
 
-pub loop-low-preserved : goal.loop-low-preserved
-loop-low-preserved g c =
+pub offset_bounds-sum-start : goal.offset_bounds-sum-start
+offset_bounds-sum-start g c =
+    let inside = run_inside c.loop-r.r c.rows.result (2 * c.weight-weight.result) c.loop-r-test.true in
+    search rules
+
+pub loop-r-preserved : goal.loop-r-preserved
+loop-r-preserved g c =
     let Y = g.F.Sums.symbols in
     let v = g.F.Sums.value in
     let code = full Y c.args.cabinet.now.size.m in
     let b = c.args.b in
-    let k = shift code b in
-    let j = c.loop-low.low-iterator.next in
-    let low = c.in-Some.low in
-    let high = c.in-Some.high in
-    let block = c.block-block.ensures in
-    let sum = c.loop-low.sum in
+    let w = c.weight-weight.result in
+    let r = c.loop-r.r in
+    let start : ℕ = r * (2 * w) in
+    let run : ℕ = start + 2 * w - start in
+    let size : run ≡ 2 * w = omega arith in
+    let sum = c.loop-r.sum in
+    let old = c.args.sum.now in
     let column = c.args.column.now in
-    let inv = c.loop-low.invariant in
-    let steps = c.in-Some.ensures.steps in
-    let rows = rows_named inv.0 inv.1 steps.1.0 in
-    let hs : high < length sum = omega (arith, rows.bound) in
-    let es = read Y v column low _ (omega (arith, rows.rising, rows.bound)) c.index-column-low.is in
-    let et = read Y v column high _ (omega (arith, rows.bound)) c.index-column-high.is in (
-      ap (λ d. d.digits) steps.0 ∙ inv.0,
-      ap (λ d. d.place) steps.0 ∙ inv.1,
-      pairwise_more Y v k j low high rows.is_low rows.is_high rows.rising sum c.sum.result c.sum-in-loop-low.result hs _ steps.1.1 _ _
-          (c.sum.ensures
-          ∙ ap₂ Y.ring.plus (read Y v sum low _ (omega (arith, rows.rising)) c.index-sum-low.is ∙ inv.2.left low (omega (arith, ap (pair_of k) rows.is_low ∙ pair_lower k j)))
-          (c.apply.ensures.lower ∙ image_at_low code b (at Y v column) j low high rows.is_low rows.is_high _ _ _ _ _ block.is_kind block.first block.second es et))
-          (c.sum-in-loop-low.ensures
-          ∙ ap₂ Y.ring.plus (read Y v _ high _ (simp length-set hs) c.index-sum-high.is ∙ written_else Y v sum low high c.sum.result (λ e. omega (arith, rows.rising)) ∙ inv.2.left high (omega (arith, ap (pair_of k) rows.is_high ∙ pair_upper k j)))
-          (c.apply.ensures.upper ∙ image_at_high code b (at Y v column) j low high rows.is_low rows.is_high _ _ _ _ _ block.is_kind block.first block.second es et))
-          inv.2,
-    )
+    let block = c.block-block.ensures in
+    let is : w ≡ 2 ^ shift code b = c.weight-weight.ensures.value ∙ ap (λ n. 2 ^ n) c.digit.ensures.place in
+    let inside = run_inside r c.rows.result (2 * w) c.loop-r-test.true in
+    let before : (i : ℕ) → start ≤ i → at Y v sum i ≡ at Y v old i = λ i h. c.loop-r.invariant.left i h in
+    run_more Y v w start run size sum c.add_run.new.sum (omega (arith, inside)) (omega (arith, inside))
+    (added Y (at Y v old) (image code b (at Y v column)))
+    (λ i l. c.add_run.ensures.lower i l
+    ∙ ap₂ Y.ring.plus (part Y v sum (2 * w) r start run refl size i (omega arith) ∙ before (start + i) (omega arith))
+    (image_low code b r w i is l (at Y v column) _ _ _ _ _ block.is_kind block.first block.second
+    (part Y v column (2 * w) r start run refl size i (omega arith))
+    (part Y v column (2 * w) r start run refl size (i + w) (omega arith) ∙ ap (at Y v column) (omega arith))))
+    (λ i l. c.add_run.ensures.upper i l
+    ∙ ap₂ Y.ring.plus (part Y v sum (2 * w) r start run refl size (i + w) (omega arith) ∙ before (start + (i + w)) (omega arith) ∙ ap (at Y v old) (omega arith))
+    (image_high code b r w i is l (at Y v column) _ _ _ _ _ block.is_kind block.first block.second
+    (part Y v column (2 * w) r start run refl size i (omega arith))
+    (part Y v column (2 * w) r start run refl size (i + w) (omega arith) ∙ ap (at Y v column) (omega arith))))
+    old ((r + 1) * (2 * w)) (omega arith) c.loop-r.invariant
 
 pub returns : goal.returns
 returns g c =
-    let m = c.args.cabinet.now.size.m in
-    let k = shift (full g.F.Sums.symbols m) c.args.b in
-    let inv = c.loop-low.invariant in
-    pairwise_all g.F.Sums.symbols g.F.Sums.value m k _ _ _ _ _ inv.0 c.in-None.ensures.steps.1.0 (shift_below (full g.F.Sums.symbols m) c.args.b c.args.cabinet.now.size.some) (omega arith) inv.2
+    let size = c.args.cabinet.now.size in
+    let code = full g.F.Sums.symbols size.m in
+    let b = c.args.b in
+    let all = runs_all size.m (shift code b) c.weight-weight.result c.rows.result c.loop-r.r (shift_below code b size.some) (c.weight-weight.ensures.value ∙ ap (λ n. 2 ^ n) c.digit.ensures.place) c.rows.ensures.value c.loop-r-test.false in
+    λ a l. c.loop-r.invariant.done a (omega (arith, all)) (omega arith)
