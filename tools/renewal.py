@@ -11,8 +11,9 @@ The lines, with columns and halves as `box N:` and the numbers of their symbols:
   order in which they arrive;
 - a heading, the lost column renewed from them, whether it is the lost one, and
   how many numbers were taken, beside the cost of whole columns;
-- a heading, the columns of two boxes that are out, decoded from the columns of
-  the others, and whether they are the lost ones.
+- a heading, and what is left of the columns of two boxes that are out: zeros;
+- a heading, these columns decoded from the columns of the others, and whether
+  they are the lost ones.
 """
 
 LEVELS = [
@@ -145,7 +146,10 @@ print("Renewed from them:")
 print(line(LOST, renewed))
 print("It is the lost column." if renewed == columns[LOST - 1] else "It is not the lost column.")
 print(f"Numbers taken: {len(halves(LEVELS))}. Whole columns would have cost {BOXES * ROWS}.")
-print("Boxes {} and {} are out. Decoded from the columns of the others:".format(*OUT))
+print("Boxes {} and {} are out. This is left of their columns:".format(*OUT))
+for b in OUT:
+    print(line(b, [0] * ROWS))
+print("Decoded from the columns of the others:")
 decoded = solve(kept, OUT)
 for b, column in zip(OUT, decoded):
     print(line(b, column))

@@ -1,5 +1,5 @@
 -- Lemmas on a file amended in one symbol, and the boxes moved by their columns of the change. Assumes nothing.
-use Rattle.std.proofs.Common.{◌≡◌, ◌≢◌, ℕ, suc, ◌+◌, ◌-◌, ◌*◌, ◌^◌, ◌<◌, ◌≤◌, ◌⊎◌, ⊎_elim, Bool, true, List, [], ◌∷◌, map, length, slice_index_or, slice_set, sym, refl, ap, ap₂, ◌∙◌, subst, inl, inr, arith, tests, get_or-set_other, get_or-set_same}
+use Rattle.std.proofs.Common.{◌≡◌, ◌≢◌, ℕ, suc, ◌+◌, ◌-◌, ◌*◌, ◌^◌, ◌<◌, ◌≤◌, ◌⊎◌, ⊎_elim, Bool, true, List, [], ◌∷◌, map, length, slice_index_or, slice_set, sym, refl, ap, ap₂, ◌∙◌, subst, inl, inr, arith, get_or-set_other, get_or-set_same}
 use mathlib.Core.Path.{fun_ext}
 use Rattle.std.proofs.lemmas.Bool.{cases_order}
 use Rattle.std.proofs.lemmas.List.{get_or-map, length-map, map-set}
@@ -19,7 +19,7 @@ use Rattle.shelf.specs.Meaning.{Meaning}
 use Rattle.stripe.specs.Stripes.{HoldsFile, StripeFile, held, stands}
 use Rattle.amending.specs.Amendments.{Amended, with_cell}
 use Rattle.amending.specs.Changes.{Moved, single, touches}
-use Rattle.amending.proofs.Moves.{by_place, plus_none, single_else, single_here}
+use Rattle.amending.proofs.Moves.{by_place, cell_else, cell_here, plus_none, single_else, single_here}
 use Rattle.amending.proofs.Singles.{column_plus}
 
 -- the row of a data box has a place in a file, and one of its own
@@ -79,7 +79,7 @@ module _ (Y : Symbols) {T : Type 0} (v : T → Y.Symbol) (m from : ℕ) (some : 
     stood : stands t ≡ stands s
     stood = fun_ext same_stand
 
-    pub holds_then : HoldsFile Y v m from s f → HoldsFile Y v m from t g
+    holds_then : HoldsFile Y v m from s f → HoldsFile Y v m from t g
     holds_then k e l w r q =
         let u : stands s e ≡ true = sym (same_stand e) ∙ w in
         moved.symbols e l u r q ∙ ap (λ z. Y.ring.plus z (column c h e r)) (k e l u r q) ∙ sym (columns e l r q)
@@ -87,7 +87,7 @@ module _ (Y : Symbols) {T : Type 0} (v : T → Y.Symbol) (m from : ℕ) (some : 
     counted : (e : ℕ) → Counts c (stands t) e → Counts c (stands s) e
     counted e w = subst (λ u. Counts c u e) stood w
 
-    pub file_then : StripeFile Y v m from s f → StripeFile Y v m from t g
+    file_then : StripeFile Y v m from s f → StripeFile Y v m from t g
     file_then k = record {
       has = λ e l w r q.
           let u = counted e w in
@@ -120,8 +120,8 @@ module _ (Y : Symbols) {T : Type 0} (v : T → Y.Symbol) (m from b a place : ℕ
   cell e r l = by_place b a e r
       (λ p.
       let q : e * 2 ^ m + r ≡ place = ap₂ (λ j k. j * 2 ^ m + k) p.0 p.1 ∙ sym ep in
-      ap (at Y v after) q ∙ here ∙ sym (chosen e r p.0 p.1))
-      (λ n. there (e * 2 ^ m + r) (λ q. apart (2 ^ m) e r b a l row n (q ∙ ep)) ∙ sym (not_chosen e r n))
+      ap (at Y v after) q ∙ here ∙ sym (cell_here Y b a (v x) file e r p.0 p.1))
+      (λ n. there (e * 2 ^ m + r) (λ q. apart (2 ^ m) e r b a l row n (q ∙ ep)) ∙ sym (cell_else Y b a (v x) file e r n))
     where
       here : at Y v after place ≡ v x
       here =
@@ -131,25 +131,13 @@ module _ (Y : Symbols) {T : Type 0} (v : T → Y.Symbol) (m from b a place : ℕ
       there : (k : ℕ) → k ≢ place → at Y v after k ≡ at Y v xs k
       there k n = ap (λ ys. slice_index_or ys k Y.ring.zero) (map-set v xs place x) ∙ get_or-set_other (map v xs) place k (v x) Y.ring.zero n
 
-      chosen : (e r : ℕ) → e ≡ b → r ≡ a → with_cell Y b a (v x) file e r ≡ v x
-      chosen e r p q = grind (arith, tests)
-
-      not_chosen : (e r : ℕ) → (e ≢ b) ⊎ (r ≢ a) → with_cell Y b a (v x) file e r ≡ file e r
-      not_chosen e r n = grind (arith, tests)
-
   abbrev change : Y.Symbol
   change = ◌∸◌ Y.ring (v x) (file b a)
 
   sum_cell : (e r : ℕ) → with_cell Y b a (v x) file e r ≡ Y.ring.plus (file e r) (single Y b a change e r)
   sum_cell e r = by_place b a e r
-      (λ p. chosen e r p.0 p.1 ∙ sym (ap₂ Y.ring.plus (ap₂ file p.0 p.1) (single_here Y b a change e r p.0 p.1) ∙ restored Y.ring (file b a) (v x)))
-      (λ n. not_chosen e r n ∙ sym (ap (Y.ring.plus (file e r)) (single_else Y b a change e r n) ∙ plus_none Y (file e r)))
-    where
-      chosen : (e r : ℕ) → e ≡ b → r ≡ a → with_cell Y b a (v x) file e r ≡ v x
-      chosen e r p q = grind (arith, tests)
-
-      not_chosen : (e r : ℕ) → (e ≢ b) ⊎ (r ≢ a) → with_cell Y b a (v x) file e r ≡ file e r
-      not_chosen e r n = grind (arith, tests)
+      (λ p. cell_here Y b a (v x) file e r p.0 p.1 ∙ sym (ap₂ Y.ring.plus (ap₂ file p.0 p.1) (single_here Y b a change e r p.0 p.1) ∙ restored Y.ring (file b a) (v x)))
+      (λ n. cell_else Y b a (v x) file e r n ∙ sym (ap (Y.ring.plus (file e r)) (single_else Y b a change e r n) ∙ plus_none Y (file e r)))
 
   -- the change, by the file's columns
   pub change_is : (z : Y.Symbol) → z ≡ ◌∸◌ Y.ring (v x) (at Y v xs place) → z ≡ change

@@ -1,34 +1,22 @@
 -- Lemmas on what moves in a stripe, one write after another. Assumes nothing.
-use Rattle.std.proofs.Common.{◌≡◌, ◌≢◌, ℕ, suc, ◌+◌, ◌*◌, ◌^◌, ◌<◌, ◌⊎◌, ⊎_elim, Bool, true, false, ◌&&◌, ◌||◌, ◌==◌, nat_le, Some, None, is_some, sym, refl, ap, ap₂, ◌∙◌, subst, inl, inr, true≢false, arith, tests, Option, MatchOption, IsNone, IsSomeAnd}
-use Rattle.std.proofs.lemmas.Bool.{cases_eq}
+use Rattle.std.proofs.Common.{◌≡◌, ◌≢◌, ℕ, suc, ◌+◌, ◌*◌, ◌^◌, ◌<◌, ◌⊎◌, ⊎_elim, Bool, true, false, ◌&&◌, ◌||◌, ◌==◌, Some, None, is_some, sym, refl, ap, ap₂, ◌∙◌, subst, inl, inr, true≢false, arith, tests, Option, MatchOption, IsNone, IsSomeAnd}
+use Rattle.std.proofs.lemmas.Bool.{cases_eq, or_parts}
 use Rattle.field.specs.Symbols.{Symbols}
 use Rattle.shelf.specs.Laws.{Stored}
 use Rattle.shelf.specs.Meaning.{IsShelf, Meaning, box_count, has_row, is_standing, symbol_at, with_symbol}
 use Rattle.shelf.proofs.Meanings.{symbol_at_there}
 use Rattle.stripe.specs.Stripes.{OnlyStripe, has_stripe, held, stands}
-use Rattle.stripe.proofs.Held.{at_row, symbol_same}
+use Rattle.stripe.proofs.Held.{at_row, only_then, symbol_same}
+use Rattle.amending.specs.Amendments.{with_cell}
 use Rattle.amending.specs.Changes.{Moved, single}
 
-module _ {T : Type 0} (m from : ℕ) where
-  only_same : (s t : Meaning T) → t ≡ s → OnlyStripe m from s t
-  only_same s t e = record {
-    boxes = ap (λ u. box_count u) e;
-    rows = ap (λ u. u.rows) e;
-    stand = λ b. ap (λ u. is_standing u b) e;
-    elsewhere = λ b a h. ap (λ u. symbol_at u b a) e;
-  }
-
-  only_then : (s t u : Meaning T) → OnlyStripe m from s t → OnlyStripe m from t u → OnlyStripe m from s u
-  only_then s t u p q = record {
-    boxes = q.boxes ∙ p.boxes;
-    rows = q.rows ∙ p.rows;
-    stand = λ b. q.stand b ∙ p.stand b;
-    elsewhere = λ b a h. q.elsewhere b a h ∙ p.elsewhere b a h;
-  }
-
-  -- a shelf that had the stripe has it
-  pub stripe_kept : (s t : Meaning T) → has_stripe m from s ≡ true → OnlyStripe m from s t → has_stripe m from t ≡ true
-  stripe_kept s t h o = ap₂ (λ n r. (n == 3 * m + 2) && nat_le (from + 2 ^ m) r) o.boxes o.rows ∙ h
+only_same : {T : Type 0} (m from : ℕ) (s t : Meaning T) → t ≡ s → OnlyStripe m from s t
+only_same m from s t e = record {
+  boxes = ap (λ u. box_count u) e;
+  rows = ap (λ u. u.rows) e;
+  stand = λ b. ap (λ u. is_standing u b) e;
+  elsewhere = λ b a h. ap (λ u. symbol_at u b a) e;
+}
 
 -- a place is the one named, or another
 pub by_place : {A : Type 0} (b a e r : ℕ) → ((e ≡ b) × (r ≡ a) → A) → ((e ≢ b) ⊎ (r ≢ a) → A) → A
@@ -45,15 +33,14 @@ module _ (Y : Symbols) where
   pub single_else : (b a : ℕ) (d : Y.Symbol) (e r : ℕ) → (e ≢ b) ⊎ (r ≢ a) → single Y b a d e r ≡ Y.ring.zero
   single_else b a d e r n = grind (arith, tests)
 
-  module _ {T : Type 0} (v : T → Y.Symbol) (m from : ℕ) where
-    pub moved_none : (by : ℕ → ℕ → Y.Symbol) (touched : ℕ → ℕ → Bool) (s t : Meaning T) → t ≡ s → ((b : ℕ) → b < 3 * m + 2 → (a : ℕ) → a < 2 ^ m → by b a ≡ Y.ring.zero)
-        → Moved Y v m from by touched s t
-    moved_none by touched s t e none = record {
-      symbols = λ b h w a l. ap (λ u. held Y v m from u b a) e ∙ sym (ap (Y.ring.plus (held Y v m from s b a)) (none b h a l) ∙ plus_none (held Y v m from s b a));
-      untouched = λ b a l q. ap (λ u. symbol_at u (suc b) (from + a)) e;
-      only = only_same m from s t e;
-    }
+  -- a file with one cell set, in that cell and in the others
+  pub cell_here : (b a : ℕ) (x : Y.Symbol) (f : ℕ → ℕ → Y.Symbol) (e r : ℕ) → e ≡ b → r ≡ a → with_cell Y b a x f e r ≡ x
+  cell_here b a x f e r p q = grind (arith, tests)
 
+  pub cell_else : (b a : ℕ) (x : Y.Symbol) (f : ℕ → ℕ → Y.Symbol) (e r : ℕ) → (e ≢ b) ⊎ (r ≢ a) → with_cell Y b a x f e r ≡ f e r
+  cell_else b a x f e r n = grind (arith, tests)
+
+  module _ {T : Type 0} (v : T → Y.Symbol) (m from : ℕ) where
     -- one after the other
     pub moved_then : (p q : ℕ → ℕ → Y.Symbol) (f g : ℕ → ℕ → Bool) (s t u : Meaning T) → Moved Y v m from p f s t → Moved Y v m from q g t u
         → Moved Y v m from (λ b a. Y.ring.plus (p b a) (q b a)) (λ b a. f b a || g b a) s u
@@ -61,14 +48,9 @@ module _ (Y : Symbols) where
       symbols = λ b h w a l.
           y.symbols b h (x.only.stand (suc b) ∙ w) a l ∙ ap (λ z. Y.ring.plus z (q b a)) (x.symbols b h w a l)
           ∙ Y.ring.plus_assoc (held Y v m from s b a) (p b a) (q b a);
-      untouched = λ b a l n. y.untouched b a l (neither (f b a) (g b a) n).1 ∙ x.untouched b a l (neither (f b a) (g b a) n).0;
+      untouched = λ b a l n. y.untouched b a l (or_parts (f b a) (g b a) n).1 ∙ x.untouched b a l (or_parts (f b a) (g b a) n).0;
       only = only_then m from s t u x.only y.only;
     }
-      where
-        neither : (i j : Bool) → (i || j) ≡ false → (i ≡ false) × (j ≡ false)
-        neither false false e = (refl, refl)
-        neither false true e = absurd (true≢false e)
-        neither true j e = absurd (true≢false e)
 
     -- the same in other words
     pub moved_as : (p q : ℕ → ℕ → Y.Symbol) (f g : ℕ → ℕ → Bool) (s t : Meaning T) → Moved Y v m from p f s t → ((b : ℕ) → b < 3 * m + 2 → (a : ℕ) → a < 2 ^ m → p b a ≡ q b a)
@@ -89,7 +71,7 @@ module _ (Y : Symbols) where
       stays e r l n q =
           symbol_same Y v m from t s e r l q ∙ sym (ap (Y.ring.plus (held Y v m from s e r)) (single_else b a d e r n) ∙ plus_none (held Y v m from s e r))
 
-      pub moved_store : (x y : T) → symbol_at s (suc b) (from + a) ≡ Some x → v y ≡ Y.ring.plus (v x) d → t ≡ with_symbol s (suc b) (from + a) y → Stored s (with_symbol s (suc b) (from + a) y) (suc b) (from + a) y
+      moved_store : (x y : T) → symbol_at s (suc b) (from + a) ≡ Some x → v y ≡ Y.ring.plus (v x) d → t ≡ with_symbol s (suc b) (from + a) y → Stored s (with_symbol s (suc b) (from + a) y) (suc b) (from + a) y
           → Moved Y v m from (single Y b a d) (λ e r. e == b && r == a) s t
       moved_store x y there sum put stored = record {
         symbols = λ e h w r l. by_place b a e r
@@ -118,7 +100,7 @@ module _ (Y : Symbols) where
           in_place e r p n = let i = p.0 in let j = p.1 in grind (arith, tests)
 
       -- or is not there
-      pub moved_absent : symbol_at s (suc b) (from + a) ≡ None → t ≡ s → Moved Y v m from (single Y b a d) (λ e r. e == b && r == a) s t
+      moved_absent : symbol_at s (suc b) (from + a) ≡ None → t ≡ s → Moved Y v m from (single Y b a d) (λ e r. e == b && r == a) s t
       moved_absent out same = record {
         symbols = λ e h w r l. by_place b a e r
             (λ p.

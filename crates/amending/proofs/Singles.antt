@@ -60,6 +60,11 @@ module _ {A : Type 0} (R : Ring A) where
   block_alone Sum p q d true e = ring R (p ∷ []) (λ p. p ⊗ o ≐ o) refl
   block_alone Sum p q d false e = ring R (q ∷ []) (λ q. q ⊗ o ≐ o) refl
 
+-- nothing is its own opposite
+not_own : (u : Bool) → u ≡ not u → ⊥
+not_own true z = true≢false z
+not_own false z = true≢false (sym z)
+
 -- columns of a sum of files
 module _ {A : Type 0} (c : Code A) where
   open c.ring use {plus as add}
@@ -98,10 +103,6 @@ module _ (Y : Symbols) (m b a : ℕ) (d : Y.Symbol) where
     where
       other : (u : Bool) (x : Bool) → odd (digit k a) ≡ u → x ≡ not u → partner k x a ≢ a
       other u x e n q = not_own u (sym (ap (λ r. odd (digit k r)) q ∙ e) ∙ bit_to_c k x a ∙ n)
-        where
-          not_own : (u : Bool) → u ≡ not u → ⊥
-          not_own true z = true≢false z
-          not_own false z = true≢false (sym z)
 
       own : (x : Bool) → odd (digit k a) ≡ x → partner k x a ≡ a
       own x e = ap (λ y. partner k y a) (sym e) ∙ to_bit_c k a
@@ -126,11 +127,11 @@ module _ (Y : Symbols) (m b a : ℕ) (d : Y.Symbol) where
       ∙ sym (image_pair (not up))
 
   -- the partner's row stays where the block does not carry
-  pub image_alone : carries (kind c b) up ≡ false → image c b C (other_row c b a) ≡ Y.ring.zero
+  image_alone : carries (kind c b) up ≡ false → image c b C (other_row c b a) ≡ Y.ring.zero
   image_alone n = image_pair (not up) ∙ block_alone Y.ring (kind c b) (eigen_p c b) (eigen_q c b) d up n
 
   -- and so do the rows of other pairs
-  pub image_else : (r : ℕ) → r ≢ a → r ≢ other_row c b a → image c b C r ≡ Y.ring.zero
+  image_else : (r : ℕ) → r ≢ a → r ≢ other_row c b a → image c b C r ≡ Y.ring.zero
   image_else r n n' =
       ap₂ (λ s t. block Y.ring (kind c b) (eigen_p c b) (eigen_q c b) s t (odd (digit k r))) (none false) (none true)
       ∙ block_none Y.ring (kind c b) (eigen_p c b) (eigen_q c b) (odd (digit k r))
@@ -144,12 +145,8 @@ module _ (Y : Symbols) (m b a : ℕ) (d : Y.Symbol) where
       none : (x : Bool) → C (partner k x r) ≡ Y.ring.zero
       none x = single_else Y b a d b (partner k x r) (inr λ e. in_pair (odd (digit k r)) up refl (ap (partner k (odd (digit k r))) (sym e) ∙ to_to_c k (odd (digit k r)) x r ∙ to_bit_c k r))
 
-  pub other_apart : other_row c b a ≢ a
+  other_apart : other_row c b a ≢ a
   other_apart q = not_own up (sym (ap (λ r. odd (digit k r)) q) ∙ bit_to_c k (not up) a)
-    where
-      not_own : (u : Bool) → u ≡ not u → ⊥
-      not_own true z = true≢false z
-      not_own false z = true≢false (sym z)
 
   -- the columns of the file
   module _ (inside : b < 3 * m) where
@@ -160,7 +157,7 @@ module _ (Y : Symbols) (m b a : ℕ) (d : Y.Symbol) where
         ∙ block_none Y.ring (kind c e) (eigen_p c e) (eigen_q c e) (odd (digit (shift c e) r))
 
     -- by the three kinds of boxes: a place of a data box, of the first parity, and of the second
-    pub single_columns : (e : ℕ) → e < 3 * m + 2 → (r : ℕ)
+    single_columns : (e : ℕ) → e < 3 * m + 2 → (r : ℕ)
         → Y.ring.plus (single Y b a d e r) (Y.ring.plus (single Y (3 * m) a d e r) (if e == suc (3 * m) then image c b C r else Y.ring.zero)) ≡ column c (single Y b a d) e r
     single_columns = by_box c (single Y b a d) (λ e E. (r : ℕ) → total e r ≡ E r)
         (λ e l r.
@@ -185,7 +182,7 @@ module _ (Y : Symbols) (m b a : ℕ) (d : Y.Symbol) where
             (λ n. single_else Y e a d e r (inr n) ∙ sym (single_else Y b a d b r (inr n))) (cases_eq r a)
 
     -- no place that is not touched is in one of the three
-    pub single_touches : (e r : ℕ) → touches c b a e r ≡ false
+    single_touches : (e r : ℕ) → touches c b a e r ≡ false
         → ((e == b && r == a) || ((e == 3 * m && r == a) || (e == suc (3 * m) && in_image c b a r))) ≡ false
     single_touches e r n = in_turn (e == b) (e == 3 * m) (r == a) (e == suc (3 * m) && in_image c b a r) n
       where

@@ -11,7 +11,7 @@ pub power_is : (k r : ℕ) → k ≤ 6 → r ≡ 2 ^ (k % 64) → r ≡ 2 ^ k
 power_is k r h e = e ∙ ap (λ n. 2 ^ n) (omega arith)
 
 -- j, and once more all of it but the rest below a weight
-pub low_is : (k w j : ℕ) → w ≡ 2 ^ k → j + (j - j % w) ≡ lower k j
+low_is : (k w j : ℕ) → w ≡ 2 ^ k → j + (j - j % w) ≡ lower k j
 low_is k w j e = rw e (omega (arith, lower_is k j, shr_split j k))
 
 pub rows_of_pair : (m k j w : ℕ) → m ≤ 6 → k < m → j < 2 ^ (m - 1) → w ≡ 2 ^ k → 1 ≤ w → RowsOfPair m k j (j + (j - j % w)) (j + (j - j % w) + w)

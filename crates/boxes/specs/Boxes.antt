@@ -17,9 +17,7 @@ pub record BlockOf {A : Type 0} (c : Code A) (b : ℕ) (u : Kind) (p q : A) : Ty
   pub first : p ≡ eigen_p c b
   pub second : q ≡ eigen_q c b
 
--- kind, digit and eigenvalues of the data box in place b
+-- its digit besides
 pub record BoxOf {A : Type 0} (c : Code A) (b : ℕ) (u : Kind) (k : ℕ) (p q : A) : Type 0 where
-  pub is_kind : u ≡ kind c b
+  pub block : BlockOf c b u p q
   pub is_shift : k ≡ shift c b
-  pub first : p ≡ eigen_p c b
-  pub second : q ≡ eigen_q c b

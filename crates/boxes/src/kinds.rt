@@ -18,7 +18,7 @@ pub struct DataBox<F> {
     pub shift: usize,
 }
 
-// The kind of the data box in place b, from 0.
+// The kind of the data box in place b, from 0; the first where m is 0.
 pub fn kind_at(m: usize, b: usize) -> Kind
     ensures { result ≡ kind_of (b / m) }
 {
@@ -29,7 +29,7 @@ pub fn kind_at(m: usize, b: usize) -> Kind
     }
 }
 
-// The place of the digit of its direction.
+// The place of the digit of its direction; 0 where m is 0.
 pub fn shift_at(m: usize, b: usize) -> usize
     ensures { result ≡ m - (b % m + 1) }
 {

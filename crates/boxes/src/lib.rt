@@ -9,4 +9,4 @@ mod size;
 pub use cabinet::Cabinet;
 pub use kinds::{DataBox, KINDS, data_box, kind_at, shift_at};
 pub use rows::{Digit, Pairs, pair_rows, power};
-pub use size::Size;
+pub use size::{MOST_ROWS, Size};

@@ -6,6 +6,9 @@ use crate::kinds::{KINDS, shift_at};
 use crate::rows::{Digit, small_power};
 use refusal::{Refusal, sized};
 
+// How many symbols the columns of the largest size have.
+pub const MOST_ROWS: usize = 64;
+
 // A size m, from 1 to 6: 3m data boxes, and columns of 2^m symbols.
 #[derive(Debug, Drop)]
 pub struct Size {

@@ -16,6 +16,7 @@ pub struct Byte(pub u8);
 const REDUCTION: u8 = 0x1b;
 
 // a times x.
+#[inline(always)]
 fn twice(a: u8) -> u8
     ensures { result ≡ double_of a }
 {
@@ -24,6 +25,7 @@ fn twice(a: u8) -> u8
 }
 
 // Fills the buffer with a, a times x, a times x^2 and so on.
+#[inline(always)]
 fn list_doublings(doubles: &mut [u8], a: u8)
     ensures { doubles.new ≡ doubles_of (length doubles.old) a }
 {
@@ -35,6 +37,7 @@ fn list_doublings(doubles: &mut [u8], a: u8)
 }
 
 // Eight of them, since a factor has eight digits.
+#[inline(always)]
 fn doublings(a: u8) -> [u8; 8]
     ensures { result ≡ doubles_of 8 a }
 {
@@ -44,6 +47,7 @@ fn doublings(a: u8) -> [u8; 8]
 }
 
 // d if b is odd.
+#[inline(always)]
 fn chosen(b: u8, d: u8) -> u8
     ensures { result ≡ pick (b % 2) d }
 {
@@ -51,6 +55,7 @@ fn chosen(b: u8, d: u8) -> u8
 }
 
 // The sum of the doublings of a that the digits of b pick.
+#[inline(always)]
 fn times(a: u8, b: u8) -> u8
     ensures { result ≡ product_of a b }
 {
@@ -98,6 +103,8 @@ impl Sums for Byte {
 
     ghost marks_agree = { refl };
 
+    fn takes_few_bytes() {}
+
     fn zero() -> Byte {
         Byte(0)
     }
@@ -115,6 +122,7 @@ impl Sums for Byte {
         self
     }
 
+    #[inline(always)]
     fn product(self, other: Byte) -> Byte {
         Byte(times(self.0, other.0))
     }

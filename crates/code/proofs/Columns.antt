@@ -1,5 +1,4 @@
--- Which column of a file each box holds, and files that have given columns in all boxes but two.
--- Assumes nothing.
+-- Which column of a file each box holds, and files that have given columns in all boxes but two. Assumes nothing.
 use Rattle.std.proofs.Common.{◌≡◌, ℕ, suc, ◌+◌, ◌<◌, nat_lt, ◌≢◌, subst, sym, inl, inr, ◌∙◌, arith, le-ltb, lt-ltb}
 use Rattle.std.proofs.lemmas.Bool.{cases_order, cond-true, cond-false}
 use Rattle.code.specs.Codes.{Code, Column, File, data_boxes, parity1, parity2, column, Alike}

@@ -1,5 +1,4 @@
--- Columns cut to the rows below 2 ^ m: what a matrix does along a digit below m stays below.
--- Assumes nothing.
+-- Columns cut to the rows below 2 ^ m: what a matrix does along a digit below m stays below. Assumes nothing.
 use Rattle.std.proofs.Common.{◌≡◌, ℕ, zero, suc, ◌^◌, ◌<◌, ◌≤◌, Bool, true, false, if◌then◌else◌, nat_lt, [], ◌∷◌, sym, refl, ap, ◌∙◌, ap₂, inl, inr, le-ltb, lt-ltb, arith}
 use mathlib.Core.Path.{fun_ext}
 use Rattle.std.proofs.lemmas.Bool.{cases_lt, cond-true, cond-false}

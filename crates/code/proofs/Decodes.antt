@@ -1,5 +1,4 @@
--- The file that has given columns in all boxes but two, by which boxes are missing, where the blocks can be undone.
--- Assumes nothing.
+-- The file that has given columns in all boxes but two, by which boxes are missing, where the blocks can be undone. Assumes nothing.
 use Rattle.std.proofs.Common.{◌≡◌, ℕ, suc, ◌+◌, ◌*◌, ◌<◌, ◌≤◌, ◌≢◌, [], ◌∷◌, sym, refl, ap, ◌∙◌, ap₂, arith}
 use mathlib.Core.Path.{fun_ext}
 use Rattle.field.specs.Ring.{Ring}

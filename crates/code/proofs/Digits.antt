@@ -1,5 +1,4 @@
--- Rows with binary digits: each digit can be read and be set by itself. And the natural numbers as such rows.
--- Assumes nothing.
+-- Rows with binary digits: each digit can be read and be set by itself. And the natural numbers as such rows. Assumes nothing.
 use Rattle.std.proofs.Common.{◌≡◌, ℕ, zero, suc, ◌+◌, ◌-◌, ◌*◌, ◌/◌, ◌%◌, ◌^◌, ◌<◌, Bool, true, false, ◌≢◌, sym, refl, ap, ◌∙◌, subst, inl, inr, pow-suc, pow-add, arith, pow_pos}
 use Rattle.std.proofs.lemmas.Bool.{cases_lt, cases_eq}
 use Rattle.std.proofs.lemmas.Nat.{shr_split, shr_high, shr_below, mod_below, mul-add-lt}

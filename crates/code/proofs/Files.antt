@@ -1,5 +1,4 @@
--- A file's columns and parities, and what the halves of all columns but one, and of the parities, say of that one.
--- Assumes nothing.
+-- A file's columns and parities, and what the halves of all columns but one, and of the parities, say of that one. Assumes nothing.
 use Rattle.std.proofs.Common.{◌≡◌, ℕ, zero, suc, ◌<◌, Bool, true, false, if◌then◌else◌, ◌==◌, ◌≢◌, [], ◌∷◌, sym, refl, ap, ◌∙◌, subst, ap₂, inl, inr}
 use mathlib.Core.Path.{fun_ext}
 use Rattle.std.proofs.lemmas.Bool.{cases_eq}
@@ -44,7 +43,7 @@ module _ {A Row : Type 0} (R : Ring A) (D : Digits Row) where
   op_total k M zero f = fun_ext λ a. ring R (M (bit k a) false ∷ M (bit k a) true ∷ []) (λ m n. m ⊗ o ⊕ n ⊗ o ≐ o) refl
   op_total k M (suc n) f = op_add R D k M (total n f) (f n) ∙ ap (λ X a. X a + Op R D k M (f n) a) (op_total k M n f)
 
-  pub halved_total : (u : Kind) (k : ℕ) (n : ℕ) (f : ℕ → Row → A) → halved R D u k (total n f) ≡ total n (λ b. halved R D u k (f b))
+  halved_total : (u : Kind) (k : ℕ) (n : ℕ) (f : ℕ → Row → A) → halved R D u k (total n f) ≡ total n (λ b. halved R D u k (f b))
   halved_total u k n f =
       halved_op R D u k (total n f) ∙ op_total k (half_m R u) n f ∙ ap (total n) (fun_ext λ b. sym (halved_op R D u k (f b)))
 

@@ -1,5 +1,4 @@
--- What the halves of columns know.
--- Assumes nothing.
+-- What the halves of columns know. Assumes nothing.
 use Rattle.std.proofs.Common.{◌≡◌, ℕ, Bool, true, false, ◌≢◌, [], ◌∷◌, sym, refl, ap, ◌∙◌, ap₂}
 use mathlib.Core.Path.{fun_ext}
 use Rattle.field.specs.Ring.{Ring}

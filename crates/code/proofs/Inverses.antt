@@ -1,5 +1,4 @@
--- Inverse matrices: of a block less a number, of the difference of two blocks of one direction, and of the change to eigenvectors.
--- Assumes nothing.
+-- Inverse matrices: of a block less a number, of the difference of two blocks of one direction, and of the change to eigenvectors. Assumes nothing.
 use Rattle.std.proofs.Common.{◌≡◌, Bool, true, false, if◌then◌else◌, ◌≢◌, [], ◌∷◌, refl, ◌∙◌, ap₂}
 use Rattle.field.specs.Ring.{Ring}
 use Rattle.code.specs.Decoding.{unit, block_matrix, to_eigen, from_eigen, undo_shift, undo_difference}
@@ -46,14 +45,14 @@ module _ {A : Type 0} (R : Ring A) where
     undo_left true false = ring R (M false false ∷ M false true ∷ M true false ∷ M true true ∷ e ∷ []) (λ a b c d e. (e ⊗ ((a ⊕ d) ⊗ o ⊖ c)) ⊗ a ⊕ (e ⊗ ((a ⊕ d) ⊗ i ⊖ d)) ⊗ c ≐ o) refl
     undo_left true true = ring_by R (M false false ∷ M false true ∷ M true false ∷ M true true ∷ e ∷ []) (λ a b c d e. (e ⊗ ((a ⊕ d) ⊗ o ⊖ c)) ⊗ b ⊕ (e ⊗ ((a ⊕ d) ⊗ i ⊖ d)) ⊗ d ≐ i ⟸ (i · e ⊗ (a ⊗ d ⊖ b ⊗ c) ≐ i) ∷ []) refl h
 
-    pub inverse_by : (N : Mat A) → ((b c : Bool) → N b c ≡ undo b c) → Inverse M N
+    inverse_by : (N : Mat A) → ((b c : Bool) → N b c ≡ undo b c) → Inverse M N
     inverse_by N is = record {
       right = λ b c. ap₂ (mix R M b) (is false c) (is true c) ∙ undo_right b c;
       left = λ b c. ap₂ (λ x y. x * M false c + y * M true c) (is b false) (is b true) ∙ undo_left b c;
     }
 
   -- the blocks again
-  pub block_matrix_is : (u : Kind) (p q : A) (b c : Bool) → block_matrix R u p q b c ≡ mat R u p q b c
+  block_matrix_is : (u : Kind) (p q : A) (b c : Bool) → block_matrix R u p q b c ≡ mat R u p q b c
   block_matrix_is u p q b false = block_is R u p q one nil b ∙ ring R (mat R u p q b false ∷ mat R u p q b true ∷ []) (λ s t. s ⊗ i ⊕ t ⊗ o ≐ s) refl
   block_matrix_is u p q b true = block_is R u p q nil one b ∙ ring R (mat R u p q b false ∷ mat R u p q b true ∷ []) (λ s t. s ⊗ o ⊕ t ⊗ i ≐ t) refl
 

@@ -11,6 +11,7 @@ pub mod Matrices
 pub mod Missing
 pub mod Operators
 pub mod Pairing
+pub mod Products
 pub mod Seats
 pub mod Solved
 pub mod Spare

@@ -1,5 +1,4 @@
--- The blocks of the three kinds, and the halves.
--- Assumes nothing.
+-- The blocks of the three kinds, and the halves. Assumes nothing.
 use Rattle.std.proofs.Common.{◌≡◌, Bool, true, false, ◌≢◌, [], ◌∷◌, refl}
 use Rattle.field.specs.Ring.{Ring}
 use Rattle.code.specs.Blocks.{block, half}

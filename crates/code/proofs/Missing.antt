@@ -1,5 +1,4 @@
--- Columns of which one or two are missing, and a sum over all: what the missing ones add to it, and those that add what is missing.
--- Assumes nothing.
+-- Columns of which one or two are missing, and a sum over all: what the missing ones add to it, and those that add what is missing. Assumes nothing.
 use Rattle.std.proofs.Common.{◌≡◌, ℕ, ◌<◌, ◌≤◌, if◌then◌else◌, ◌==◌, ◌≢◌, sym, refl, ap, ◌∙◌, subst, inl, inr}
 use mathlib.Core.Path.{fun_ext}
 use Rattle.std.proofs.lemmas.Bool.{cases_eq}

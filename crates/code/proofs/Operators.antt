@@ -1,5 +1,4 @@
--- Columns over rows with digits, and what a matrix of two by two does to them along one digit.
--- Assumes nothing.
+-- Columns over rows with digits, and what a matrix of two by two does to them along one digit. Assumes nothing.
 use Rattle.std.proofs.Common.{◌≡◌, ℕ, Bool, true, false, ◌≢◌, [], ◌∷◌, sym, refl, ◌∙◌, ap₂}
 use mathlib.Core.Path.{fun_ext}
 use Rattle.field.specs.Ring.{Ring}

@@ -1,5 +1,4 @@
--- The pairs of partners, counted by their lower rows.
--- Assumes nothing.
+-- The pairs of partners, counted by their lower rows. Assumes nothing.
 use Rattle.std.proofs.Common.{◌≡◌, ℕ, suc, ◌+◌, ◌-◌, ◌*◌, ◌/◌, ◌%◌, ◌^◌, ◌<◌, ◌≤◌, Bool, true, false, ◌⊎◌, sym, ap, ◌∙◌, ap₂, inl, inr, mul_assoc, mul-le-mul_right, pow-suc, add-one, arith, pow_pos}
 use Rattle.std.proofs.lemmas.Nat.{shr_split, shr_high, mod_low, shr-shr, le-div}
 use Rattle.std.proofs.Math.Nat.{pow-succ'}

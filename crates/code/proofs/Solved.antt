@@ -1,5 +1,4 @@
--- What a box's blocks make of a column, or the difference of what those of two boxes make of it, undone by the decoder's steps.
--- Assumes nothing.
+-- What a box's blocks make of a column, or the difference of what those of two boxes make of it, undone by the decoder's steps. Assumes nothing.
 use Rattle.std.proofs.Common.{◌≡◌, ℕ, ◌-◌, ◌*◌, if◌then◌else◌, ◌≢◌, ap, subst}
 use Rattle.field.specs.Ring.{Ring}
 use Rattle.code.specs.Blocks.{◌∸◌}

@@ -1,22 +1,30 @@
--- Any two boxes are decoded: whatever the columns of the others, exactly one file has them. And the code's laws.
--- Assumes nothing.
-use Rattle.std.proofs.Common.{◌≡◌, ℕ, suc, ◌+◌, ◌-◌, ◌*◌, ◌/◌, ◌<◌, ◌≤◌, ◌≢◌, [], ◌∷◌, sym, refl, ap, ◌∙◌, subst, inl, inr, arith}
+-- Any two boxes are decoded: whatever the columns of the others, exactly one file has them. And the code's laws. Assumes nothing.
+use Rattle.std.proofs.Common.{◌≡◌, ℕ, suc, ◌+◌, ◌-◌, ◌*◌, ◌/◌, ◌^◌, ◌<◌, ◌≤◌, ◌≢◌, [], ◌∷◌, sym, refl, ap, ap₂, ◌∙◌, subst, inl, inr, arith}
 use Rattle.std.proofs.lemmas.Bool.{cases_lt, cases_eq, cases_order}
 use Rattle.field.specs.Ring.{Ring, Divides}
 use Rattle.field.proofs.Solver.{i, ◌⊗◌, ◌≐◌, ◌⟸◌, ◌·◌, ring_by}
-use Rattle.code.specs.Blocks.{◌∸◌}
-use Rattle.code.specs.Codes.{Code, Proper, Column, File, direction, eigen_p, eigen_q, image, parity1, parity2, column, Alike}
+use Rattle.code.specs.Blocks.{◌∸◌, half}
+use Rattle.code.specs.Codes.{Code, Proper, Column, File, direction, eigen_p, eigen_q, image, parity1, parity2, column, Alike, half_for, kind, shift}
 use Rattle.code.specs.Laws.{HasColumns, Decodable, Same, Laws}
+use Rattle.code.specs.Rows.{lower}
 use Rattle.code.proofs.Columns.{column_data, column_first, column_second, by_box, has_columns, has_data, has_first, has_second}
 use Rattle.code.proofs.Cuts.{cut_same}
 use Rattle.code.proofs.Decodes.{Has, Decodes, two_decodes, first_decodes, second_decodes, parities_decode}
 use Rattle.code.proofs.Digits.{rows}
 use Rattle.code.proofs.Images.{image_same}
+use Rattle.code.proofs.Pairing.{lower_below, upper_below}
 use Rattle.code.proofs.Solved.{Shifts, block_solution, block_solved, difference, same_solution, same_solved, apart_solution, apart_solved}
 use Rattle.code.proofs.Spare.{spare}
 use Rattle.code.proofs.Sums.{sum_ext}
 use Rattle.code.proofs.Theory.{apart, same_if, gap_inverse, trim, trim1, trim2, below, shift_below, restores}
 use Rattle.code.proofs.Undone.{Undone}
+
+-- columns that are the same have the same halves
+pub same_halves : {A : Type 0} (c : Code A) → 1 ≤ c.size → (x : ℕ) (C E : Column c) → Alike c C E → (j : ℕ) → j < 2 ^ (c.size - 1) → half_for c x C j ≡ half_for c x E j
+same_halves c some x C E s j l =
+    let k = shift c x in
+    let inside = shift_below c x some in
+    ap₂ (half c.ring (kind c x)) (s (lower k j) (lower_below c.size k j inside l)) (s (lower k j + 2 ^ k) (upper_below c.size k j inside l))
 
 module _ {A : Type 0} (c : Code A) (ok : Proper c) where
   abbrev R : Ring A
@@ -46,10 +54,6 @@ module _ {A : Type 0} (c : Code A) (ok : Proper c) where
     file_has g =
         let h = d.has g in
         has_columns c x y (file g) g (λ b l w v a k. ap (λ C. C a) (h.each b l w v)) (λ w v a k. ap (λ C. C a) (h.first w v)) (λ w v a k. ap (λ C. C a) (h.second w v))
-
-    -- whatever is the same as that file has the columns too
-    pub decoded_has : (f g : ℕ → Column c) → Same c f (file g) → HasColumns c x y f g
-    decoded_has f g s b l w v a k = same_columns f (file g) s b l a k ∙ file_has g b l w v a k
 
     decodable : Decodable c x y
     decodable = record {
@@ -109,7 +113,7 @@ module _ {A : Type 0} (c : Code A) (ok : Proper c) where
           | inr (inr l) ↦ let e : y ≡ suc n = omega arith in subst (Decodable c x) (sym e) (decodable x (suc n) _ (second_decodes c x hx))
         ]
 
-    pub any_two : (x y : ℕ) → x < n + 2 → y < n + 2 → x ≢ y → Decodable c x y
+    any_two : (x y : ℕ) → x < n + 2 → y < n + 2 → x ≢ y → Decodable c x y
     any_two x y hx hy h =
         elim (cases_lt x n) [
           | inl l ↦ data_decodable x y l hy h

@@ -1,5 +1,4 @@
--- Sums over the numbers below n, and with one or two of them left out.
--- Assumes nothing.
+-- Sums over the numbers below n, and with one or two of them left out. Assumes nothing.
 use Rattle.std.proofs.Common.{◌≡◌, ℕ, zero, suc, ◌+◌ as ◌plus◌, ◌<◌, ◌≤◌, Bool, true, false, if◌then◌else◌, ◌||◌, ◌==◌, ◌≢◌, [], ◌∷◌, sym, refl, ap, ◌∙◌, ap₂, inl, inr, add-one, eq-eqb, ne_eqb, arith}
 use Rattle.std.proofs.lemmas.Bool.{cases_eq, cond-true, cond-false}
 use Rattle.field.specs.Ring.{Ring}

@@ -1,5 +1,4 @@
--- Maps of columns that undo a box's blocks, or the difference of two boxes' blocks.
--- Assumes nothing.
+-- Maps of columns that undo a box's blocks, or the difference of two boxes' blocks. Assumes nothing.
 use Rattle.std.proofs.Common.{◌≡◌, ℕ, Bool, true, false, if◌then◌else◌, ◌≢◌, [], ◌∷◌, sym, refl, ap, ◌∙◌, ap₂}
 use mathlib.Core.Path.{fun_ext}
 use Rattle.field.specs.Ring.{Ring}

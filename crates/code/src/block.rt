@@ -16,21 +16,31 @@ pub struct Block<F> {
 
 impl<F: Sums> Block<F> {
     // Both rows, by kind: apart from `apply`, so that the table is proved by itself
-    // and the eigenvalues from it.
+    // and the eigenvalues from it. Where a row is a sum of two products, one is
+    // spared: q s + (q - p) t is q (s + t) less p t, which is the other row.
+    #[tactic(auto, using(crate::proofs::Products::lower_row, crate::proofs::Products::upper_row))]
+    #[inline(always)]
     fn rows(self, s: F, t: F) -> (F, F)
         ensures lower { F.value result.0 ≡ blocked F.symbols.ring self.kind (F.value self.p) (F.value self.q) (F.value s) (F.value t) false }
         ensures upper { F.value result.1 ≡ blocked F.symbols.ring self.kind (F.value self.p) (F.value self.q) (F.value s) (F.value t) true }
     {
         let Block { kind, p, q } = self;
         match kind {
-            Kind::Lower => (q.product(s).sum(q.minus(p).product(t)), p.product(t)),
-            Kind::Upper => (q.product(s), p.minus(q).product(s).sum(p.product(t))),
+            Kind::Lower => {
+                let upper = p.product(t);
+                (q.product(s.sum(t)).minus(upper), upper)
+            }
+            Kind::Upper => {
+                let lower = q.product(s);
+                (lower, p.product(s.sum(t)).minus(lower))
+            }
             Kind::Sum => (p.product(s), q.product(t)),
         }
     }
 
     // What the block makes of s in the lower and t in the upper row. It is the
     // code's block, since it has the eigenvalues of the construction.
+    #[inline(always)]
     pub fn apply(self, s: F, t: F) -> (F, F)
         ensures lower { F.value result.0 ≡ blocked F.symbols.ring self.kind (F.value self.p) (F.value self.q) (F.value s) (F.value t) false }
         ensures upper { F.value result.1 ≡ blocked F.symbols.ring self.kind (F.value self.p) (F.value self.q) (F.value s) (F.value t) true }

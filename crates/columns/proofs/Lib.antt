@@ -1,3 +1,5 @@
+pub mod Mids
 pub mod Names
 pub mod Shares
+pub mod Sides
 pub mod Slices

@@ -3,8 +3,10 @@ use Rattle.std.proofs.Common.{◌≡◌, ℕ, ◌+◌, ◌-◌, ◌*◌, ◌^◌
 use Rattle.std.proofs.lemmas.List.{take-map, drop-map, map-set, length-map, get_or-map, get_or-take, get_or-drop, get_or_append_left, get_or-append-add, map-append, length-append}
 use Rattle.std.proofs.lemmas.Bool.{cases_eq}
 use Rattle.field.specs.Symbols.{Symbols}
+use Rattle.code.specs.Blocks.{◌∸◌}
 use Rattle.code.specs.Contents.{at, parts}
 use Rattle.code.specs.Rows.{lower, pair_of}
+use Rattle.columns.specs.Sides.{less}
 use Rattle.code.proofs.Pairing.{row_cases, pair_lower, pair_upper, pair_below}
 
 module _ (Y : Symbols) {S : Type 0} (value : S → Y.Symbol) where
@@ -114,3 +116,30 @@ module _ (Y : Symbols) {S : Type 0} (value : S → Y.Symbol) where
       ];
       left = λ a l. at_else a (λ z. omega arith) ∙ w.left a (omega arith);
     }
+
+  -- something is taken off both
+  module _ (k j low high : ℕ) (el : low ≡ lower k j) (eh : high ≡ lower k j + 2 ^ k) (E : ℕ → Y.Symbol) (before xs ys : List S)
+      (es : at Y value ys low ≡ ◌∸◌ Y.ring (at Y value xs low) (E low)) (et : at Y value ys high ≡ ◌∸◌ Y.ring (at Y value xs high) (E high))
+      (rest : (a : ℕ) → a ≢ low → a ≢ high → at Y value ys a ≡ at Y value xs a) where
+    rest_else : (a : ℕ) → (pair_of k a ≡ j → ⊥) → at Y value ys a ≡ at Y value xs a
+    rest_else a n = rest a (λ e. n (ap (pair_of k) (e ∙ el) ∙ pair_lower k j)) (λ e. n (ap (pair_of k) (e ∙ eh) ∙ pair_upper k j))
+
+    abbrev Less : ℕ → List S → Type 0
+    Less = Pairwise k (less Y (at Y value before) E) before
+
+    pub pairwise_less : (n : ℕ) → n ≡ j + 1 → Less j xs → Less n ys
+    pairwise_less n next w =
+        let low_left : at Y value ys low ≡ less Y (at Y value before) E low =
+        es ∙ ap (λ z. ◌∸◌ Y.ring z (E low)) (w.left low (omega (arith, ap (pair_of k) el ∙ pair_lower k j))) in
+        let high_left : at Y value ys high ≡ less Y (at Y value before) E high =
+        et ∙ ap (λ z. ◌∸◌ Y.ring z (E high)) (w.left high (omega (arith, ap (pair_of k) eh ∙ pair_upper k j))) in
+        record {
+          done = λ a l b. elim (cases_eq (pair_of k a) j) [
+            | inl z ↦ elim (row_cases k j a z) [
+              | inl u ↦ subst (λ n. at Y value ys n ≡ less Y (at Y value before) E n) (el ∙ sym u) low_left
+              | inr u ↦ subst (λ n. at Y value ys n ≡ less Y (at Y value before) E n) (eh ∙ sym u) high_left
+            ]
+            | inr z ↦ rest_else a z ∙ w.done a (omega arith) b
+          ];
+          left = λ a l. rest_else a (λ z. omega arith) ∙ w.left a (omega arith);
+        }

@@ -48,7 +48,7 @@ pub(crate) fn add_pairs<F: Sums>(cabinet: &Cabinet<F>, b: usize, sum: &mut [F], 
 }
 
 // Takes the half of a column, pair by pair, for the lost data box in place x.
-pub(crate) fn take_half<F: Sums>(size: &Size, x: usize, column: &[F], half: &mut [F])
+fn take_half<F: Sums>(size: &Size, x: usize, column: &[F], half: &mut [F])
     requires rows { length column.now ≡ 2 ^ size.now.m }
     requires pairs { length half.old ≡ 2 ^ (size.now.m - 1) }
     ensures { Holds F.symbols F.value (2 ^ (size.now.m - 1)) half.new (half_for (full F.symbols size.now.m) x (at F.symbols F.value column.now)) }

@@ -1,30 +1,78 @@
 // A lost column from the halves of all other boxes.
-ghost use Rattle.std.specs.Prelude.{◌≡◌, ℕ, ◌+◌, ◌-◌, ◌*◌, ◌%◌, ◌^◌, ◌<◌, ◌≤◌, true, false, [], ◌∷◌, length, if◌then◌else◌, MatchResult, ◌≢◌, nat_eq};
-ghost use Rattle.code.specs.Blocks.{◌∸◌};
+ghost use Rattle.std.specs.Prelude.{◌≡◌, ℕ, suc, ◌+◌, ◌-◌, ◌*◌, ◌^◌, ◌<◌, ◌≤◌, true, false, [], ◌∷◌, length, if◌then◌else◌, MatchResult, ◌≢◌};
+ghost use Rattle.code.specs.Blocks.{◌∸◌, block as blocked};
 ghost use Rattle.code.specs.Codes.{full, Given, image, shift};
 ghost use Rattle.code.specs.Contents.{Holds, at, parts};
-ghost use Rattle.code.specs.Recovery.{half_image, lost_half, lost_image, recovered, seat as seated};
+ghost use Rattle.code.specs.Recovery.{half_image, recover as recovered_pair, recovered, seat as seated, taken, taken_image};
 ghost use Rattle.code.specs.Rows.{digit, lower, odd, pair_of, partner};
+ghost use Rattle.columns.specs.Sides.{less, sides};
 ghost use Rattle.refusal.specs.Refusals.{earliest as first, few_marks, no_box, parity_box, refusal, wrong_lengths, wrong_size};
 
 use boxes::{Cabinet, Digit, kind_at};
+use code::Block;
 use field::{Quotients, Sums};
 use refusal::{Refusal, fitting, holding_data, numbered};
 
-// The pairs along one digit of a row and its partner along another.
-fn partner_pairs(along: &Digit, across: &Digit, row: usize) -> (usize, usize)
-    requires digits { across.now.digits ≡ along.now.digits }
-    requires row { row < 2 ^ along.now.digits }
-    ensures low { result.0 ≡ pair_of along.now.place (partner across.now.place false row) }
-    ensures high { result.1 ≡ pair_of along.now.place (partner across.now.place true row) }
-    ensures low_bound { result.0 < 2 ^ (along.now.digits - 1) }
-    ensures high_bound { result.1 < 2 ^ (along.now.digits - 1) }
+// Until it is known, the lost column holds two halves: one in the lower rows of the
+// pairs along the lost box's digit, one in the upper rows. They begin as the halves
+// of the two parities; less the half of each other data box's column, and of its
+// image, they are those of the lost column and of its image.
+
+// What a box of another direction takes off the two rows of a pair along its own
+// digit. Along the lost box's digit both are lower rows or both upper ones: from
+// lower rows the numbers of the half; from upper ones what the block makes of them,
+// since it acts on the half as on a column.
+fn share<F: Sums>(along: &Digit, block: Block<F>, half: &[F], low: usize, high: usize) -> (F, F)
+    requires pairs { length half.now ≡ 2 ^ (along.now.digits - 1) }
+    requires low { low < 2 ^ along.now.digits }
+    requires high { high < 2 ^ along.now.digits }
+    ensures lower { F.value result.0 ≡ (if odd (digit along.now.place low) then blocked F.symbols.ring block.kind (F.value block.p) (F.value block.q) (at F.symbols F.value half.now (pair_of along.now.place low)) (at F.symbols F.value half.now (pair_of along.now.place high)) false else at F.symbols F.value half.now (pair_of along.now.place low)) }
+    ensures upper { F.value result.1 ≡ (if odd (digit along.now.place low) then blocked F.symbols.ring block.kind (F.value block.p) (F.value block.q) (at F.symbols F.value half.now (pair_of along.now.place low)) (at F.symbols F.value half.now (pair_of along.now.place high)) true else at F.symbols F.value half.now (pair_of along.now.place high)) }
 {
-    let low = across.lower_partner(row);
-    (
-        along.pair_index(low),
-        along.pair_index(low + across.weight()),
-    )
+    let s = half[along.pair_index(low)];
+    let t = half[along.pair_index(high)];
+    if along.is_upper(low) {
+        block.apply(s, t)
+    } else {
+        (s, t)
+    }
+}
+
+// Takes two numbers off two rows.
+fn subtract_pair<F: Sums>(column: &mut [F], low: usize, high: usize, numbers: (F, F))
+    requires rising { low < high }
+    requires inside { high < length column.old }
+    ensures low { at F.symbols F.value column.new low ≡ ◌∸◌ F.symbols.ring (at F.symbols F.value column.old low) (F.value numbers.0) }
+    ensures high { at F.symbols F.value column.new high ≡ ◌∸◌ F.symbols.ring (at F.symbols F.value column.old high) (F.value numbers.1) }
+    ensures rest { (a : ℕ) → a ≢ low → a ≢ high → at F.symbols F.value column.new a ≡ at F.symbols F.value column.old a }
+{
+    column[low] = column[low].minus(numbers.0);
+    column[high] = column[high].minus(numbers.1);
+}
+
+// Takes off what a box of the lost box's direction sent: its half off the lower
+// rows, the half times an eigenvalue off the upper ones.
+fn subtract_multiple<F: Sums>(along: &Digit, eigenvalue: F, half: &[F], column: &mut [F])
+    requires pairs { length half.now ≡ 2 ^ (along.now.digits - 1) }
+    requires rows { length column.old ≡ 2 ^ along.now.digits }
+    ensures { Holds F.symbols F.value (2 ^ along.now.digits) column.new (less F.symbols (at F.symbols F.value column.old) (sides along.now.place (at F.symbols F.value half.now) (λ j. F.symbols.ring.times (F.value eigenvalue) (at F.symbols F.value half.now j)))) }
+{
+    for (j, (low, high)) in along.pairs().enumerate() {
+        subtract_pair(column, low, high, (half[j], eigenvalue.product(half[j])));
+    }
+}
+
+// Recovers each pair along the digit from what stands in its two rows: its half
+// and the half of its block. d is the inverse of the block's gap.
+fn recover_pairs<F: Sums>(along: &Digit, block: Block<F>, d: F, column: &mut [F])
+    requires { length column.old ≡ 2 ^ along.now.digits }
+    ensures { Holds F.symbols F.value (2 ^ along.now.digits) column.new (λ a. recovered_pair F.symbols.ring block.kind (F.value block.p) (F.value block.q) (F.value d) (at F.symbols F.value column.old (partner along.now.place false a)) (at F.symbols F.value column.old (partner along.now.place true a)) (odd (digit along.now.place a))) }
+{
+    for (low, high) in along.pairs() {
+        let (s, t) = block.recover(d, column[low], column[high]);
+        column[low] = s;
+        column[high] = t;
+    }
 }
 
 // The place of the helper in place b among all boxes, with the lost box left out.
@@ -65,39 +113,9 @@ impl<'a, F: Sums> Halves<'a, F> {
         }
     }
 
-    // A helper of another direction: its blocks act on the half as on a column,
-    // since the half has a number for each row with digit 0 in the lost direction.
-    fn image_across(&self, b: usize, half: &[F], j: usize) -> F
-        requires pairs { length half.now ≡ 2 ^ (self.now.cabinet.size.m - 1) }
-        requires pair { j < 2 ^ (self.now.cabinet.size.m - 1) }
-        ensures { F.value result ≡ image (full F.symbols self.now.cabinet.size.m) b (λ a. at F.symbols F.value half.now (pair_of (shift (full F.symbols self.now.cabinet.size.m) self.now.lost) a)) (lower (shift (full F.symbols self.now.cabinet.size.m) self.now.lost) j) }
-    {
-        let along = self.cabinet.size.digit(self.lost);
-        let across = self.cabinet.size.digit(b);
-        let (row, _) = along.pair(j).unwrap();
-        let (low, high) = partner_pairs(&along, &across, row);
-        let (s, t) = self.cabinet.block(b).apply(half[low], half[high]);
-        if across.is_upper(row) { t } else { s }
-    }
-
-    // The half of the image of box b's column, from the half of the column.
-    fn half_of_image(&self, b: usize, half: &[F], j: usize) -> F
-        requires pairs { length half.now ≡ 2 ^ (self.now.cabinet.size.m - 1) }
-        requires pair { j < 2 ^ (self.now.cabinet.size.m - 1) }
-        ensures { F.value result ≡ half_image (full F.symbols self.now.cabinet.size.m) self.now.lost b (at F.symbols F.value half.now) j }
-    {
-        let size = &self.cabinet.size;
-        if size.digit(b).place == size.digit(self.lost).place {
-            let eigenvalue = self.cabinet.block(b).eigenvalue(kind_at(size.m, self.lost));
-            eigenvalue.product(half[j])
-        } else {
-            self.image_across(b, half, j)
-        }
-    }
-
-    // The half that the data box in place b sent.
+    // The half that the helper in place b sent.
     fn half(&self, b: usize) -> &'a [F]
-        requires helper { b < 3 * self.now.cabinet.size.m }
+        requires helper { b < 3 * self.now.cabinet.size.m + 2 }
         requires other { b ≢ self.now.lost }
         ensures pairs { length result.now ≡ 2 ^ (self.now.cabinet.size.m - 1) }
         ensures numbers { (j : ℕ) → j < 2 ^ (self.now.cabinet.size.m - 1) → at F.symbols F.value result.now j ≡ parts F.symbols F.value (2 ^ (self.now.cabinet.size.m - 1)) self.now.numbers.now (seated self.now.lost b) j }
@@ -107,57 +125,78 @@ impl<'a, F: Sums> Halves<'a, F> {
         &self.numbers[start..start + pairs]
     }
 
-    // Takes the half of the data box in place b off the halves of the two
-    // parities, at pair j, unless it is the lost box: the half itself off the
-    // first, the half of its image off the second.
-    fn subtract_box(&self, b: usize, j: usize, left: (F, F)) -> (F, F)
+    // Takes off what a box of another direction sent, two numbers at a time.
+    fn subtract_image(&self, b: usize, half: &[F], column: &mut [F])
+        requires pairs { length half.now ≡ 2 ^ (self.now.cabinet.size.m - 1) }
+        requires rows { length column.old ≡ 2 ^ self.now.cabinet.size.m }
+        requires across { shift (full F.symbols self.now.cabinet.size.m) self.now.lost ≢ shift (full F.symbols self.now.cabinet.size.m) b }
+        ensures { Holds F.symbols F.value (2 ^ self.now.cabinet.size.m) column.new (less F.symbols (at F.symbols F.value column.old) (sides (shift (full F.symbols self.now.cabinet.size.m) self.now.lost) (at F.symbols F.value half.now) (λ j. image (full F.symbols self.now.cabinet.size.m) b (λ a. at F.symbols F.value half.now (pair_of (shift (full F.symbols self.now.cabinet.size.m) self.now.lost) a)) (lower (shift (full F.symbols self.now.cabinet.size.m) self.now.lost) j)))) }
+    {
+        let along = self.cabinet.size.digit(self.lost);
+        let across = self.cabinet.size.digit(b);
+        let block = self.cabinet.block(b);
+        for (low, high) in across.pairs() {
+            subtract_pair(column, low, high, share(&along, block, half, low, high));
+        }
+    }
+
+    // Takes off what the data box in place b sent: its half off the lower rows,
+    // the half of its image off the upper ones.
+    fn subtract_box(&self, b: usize, column: &mut [F])
+        requires rows { length column.old ≡ 2 ^ self.now.cabinet.size.m }
         requires helper { b < 3 * self.now.cabinet.size.m }
-        requires pair { j < 2 ^ (self.now.cabinet.size.m - 1) }
-        ensures first { F.value result.0 ≡ ◌∸◌ F.symbols.ring (F.value left.0) (if nat_eq b self.now.lost then F.symbols.ring.zero else parts F.symbols F.value (2 ^ (self.now.cabinet.size.m - 1)) self.now.numbers.now (seated self.now.lost b) j) }
-        ensures second { F.value result.1 ≡ ◌∸◌ F.symbols.ring (F.value left.1) (if nat_eq b self.now.lost then F.symbols.ring.zero else half_image (full F.symbols self.now.cabinet.size.m) self.now.lost b (parts F.symbols F.value (2 ^ (self.now.cabinet.size.m - 1)) self.now.numbers.now (seated self.now.lost b)) j) }
+        requires other { b ≢ self.now.lost }
+        ensures { Holds F.symbols F.value (2 ^ self.now.cabinet.size.m) column.new (less F.symbols (at F.symbols F.value column.old) (sides (shift (full F.symbols self.now.cabinet.size.m) self.now.lost) (parts F.symbols F.value (2 ^ (self.now.cabinet.size.m - 1)) self.now.numbers.now (seated self.now.lost b)) (half_image (full F.symbols self.now.cabinet.size.m) self.now.lost b (parts F.symbols F.value (2 ^ (self.now.cabinet.size.m - 1)) self.now.numbers.now (seated self.now.lost b))))) }
     {
-        if b == self.lost {
-            return left;
-        }
+        let size = &self.cabinet.size;
         let half = self.half(b);
-        let image = self.half_of_image(b, half, j);
-        (left.0.minus(half[j]), left.1.minus(image))
-    }
-
-    // The halves, at pair j, of the lost column and of its image: those of the
-    // parities less those of the other data boxes.
-    fn of_lost(&self, j: usize) -> (F, F)
-        requires pair { j < 2 ^ (self.now.cabinet.size.m - 1) }
-        ensures first { F.value result.0 ≡ lost_half (full F.symbols self.now.cabinet.size.m) self.now.lost (parts F.symbols F.value (2 ^ (self.now.cabinet.size.m - 1)) self.now.numbers.now) j }
-        ensures second { F.value result.1 ≡ lost_image (full F.symbols self.now.cabinet.size.m) self.now.lost (parts F.symbols F.value (2 ^ (self.now.cabinet.size.m - 1)) self.now.numbers.now) j }
-    {
-        let pairs = self.cabinet.size.pairs();
-        let boxes = self.cabinet.size.boxes();
-        // The parities are the last two helpers.
-        let mut left = (
-            self.numbers[(boxes - 1) * pairs + j],
-            self.numbers[boxes * pairs + j],
-        );
-        // Over the boxes and not the halves, since the lost box has none.
-        for b in 0..boxes {
-            left = self.subtract_box(b, j, left);
+        let along = size.digit(self.lost);
+        if size.digit(b).place == along.place {
+            let eigenvalue = self.cabinet.block(b).eigenvalue(kind_at(size.m, self.lost));
+            subtract_multiple(&along, eigenvalue, half, column);
+        } else {
+            self.subtract_image(b, half, column);
         }
-        left
     }
 
-    // Writes the lost column pair by pair; d is the inverse of the gap of the lost box's block.
-    fn write_pairs(&self, d: F, column: &mut [F])
+    // Takes off what all data boxes but the lost one sent.
+    fn subtract_boxes(&self, column: &mut [F])
+        requires { length column.old ≡ 2 ^ self.now.cabinet.size.m }
+        ensures { Holds F.symbols F.value (2 ^ self.now.cabinet.size.m) column.new (less F.symbols (at F.symbols F.value column.old) (sides (shift (full F.symbols self.now.cabinet.size.m) self.now.lost) (taken (full F.symbols self.now.cabinet.size.m) self.now.lost (3 * self.now.cabinet.size.m) (parts F.symbols F.value (2 ^ (self.now.cabinet.size.m - 1)) self.now.numbers.now)) (taken_image (full F.symbols self.now.cabinet.size.m) self.now.lost (3 * self.now.cabinet.size.m) (parts F.symbols F.value (2 ^ (self.now.cabinet.size.m - 1)) self.now.numbers.now)))) }
+    {
+        // Over the boxes and not the halves, since the lost box has none.
+        for b in 0..self.cabinet.size.boxes() {
+            if b == self.lost {
+                continue;
+            }
+            self.subtract_box(b, column);
+        }
+    }
+
+    // Writes the halves of the two parities, which the last two helpers sent.
+    fn write_parities(&self, column: &mut [F])
+        requires { length column.old ≡ 2 ^ self.now.cabinet.size.m }
+        ensures { Holds F.symbols F.value (2 ^ self.now.cabinet.size.m) column.new (sides (shift (full F.symbols self.now.cabinet.size.m) self.now.lost) (parts F.symbols F.value (2 ^ (self.now.cabinet.size.m - 1)) self.now.numbers.now (seated self.now.lost (3 * self.now.cabinet.size.m))) (parts F.symbols F.value (2 ^ (self.now.cabinet.size.m - 1)) self.now.numbers.now (seated self.now.lost (suc (3 * self.now.cabinet.size.m))))) }
+    {
+        let boxes = self.cabinet.size.boxes();
+        let first = self.half(boxes);
+        let second = self.half(boxes + 1);
+        let digit = self.cabinet.size.digit(self.lost);
+        for (j, (low, high)) in digit.pairs().enumerate() {
+            column[low] = first[j];
+            column[high] = second[j];
+        }
+    }
+
+    // Writes the lost column; d is the inverse of the gap of the lost box's block.
+    fn write(&self, d: F, column: &mut [F])
         requires { length column.old ≡ 2 ^ self.now.cabinet.size.m }
         ensures { Holds F.symbols F.value (2 ^ self.now.cabinet.size.m) column.new (λ a. recovered (full F.symbols self.now.cabinet.size.m) self.now.lost (F.value d) (parts F.symbols F.value (2 ^ (self.now.cabinet.size.m - 1)) self.now.numbers.now) (pair_of (shift (full F.symbols self.now.cabinet.size.m) self.now.lost) a) (odd (digit (shift (full F.symbols self.now.cabinet.size.m) self.now.lost) a))) }
     {
+        self.write_parities(column);
+        self.subtract_boxes(column);
         let block = self.cabinet.block(self.lost);
-        let digit = self.cabinet.size.digit(self.lost);
-        for (j, (low, high)) in digit.pairs().enumerate() {
-            let (g, h) = self.of_lost(j);
-            let (s, t) = block.recover(d, g, h);
-            column[low] = s;
-            column[high] = t;
-        }
+        recover_pairs(&self.cabinet.size.digit(self.lost), block, d, column);
     }
 }
 
@@ -170,7 +209,7 @@ fn write_column<F: Quotients>(halves: &Halves<'_, F>, column: &mut [F])
         // The marks are distinct, so the gap is not zero.
         unreachable!()
     };
-    halves.write_pairs(d, column);
+    halves.write(d, column);
 }
 
 // Writes the column given by the halves of all boxes but a lost data box,

@@ -1,5 +1,5 @@
 -- What filling in leads to: the file has the columns of all boxes but two, and it is the one file that has them. Assumes nothing.
-use Rattle.std.proofs.Common.{◌≡◌, ℕ, suc, ◌+◌, ◌^◌, ◌<◌, ◌≤◌, ◌≢◌, Bool, nat_lt, sym, ap, ◌∙◌, inl, inr, arith, lt-ltb}
+use Rattle.std.proofs.Common.{◌≡◌, ℕ, suc, ◌+◌, ◌<◌, ◌≤◌, ◌≢◌, Bool, nat_lt, sym, ap, ◌∙◌, inl, inr, arith, lt-ltb}
 use Rattle.std.proofs.lemmas.Bool.{cases_eq, cond-true}
 use Rattle.code.specs.Codes.{Code, Column, File, Alike, data_boxes}
 use Rattle.code.specs.Laws.{HasColumns, Laws}
@@ -15,9 +15,6 @@ use Rattle.missing.proofs.Counts.{aside_first, first_apart, most_below}
 module _ {A : Type 0} (c : Code A) where
   abbrev n : ℕ
   n = data_boxes c
-
-  abbrev r : ℕ
-  r = 2 ^ c.size
 
   module _ (f : File c) (first second : Column c) where
     abbrev all : ℕ → Column c

@@ -13,7 +13,7 @@ module _ {A : Type 0} (c : Code A) (ok : Proper c) (divides : Divides c.ring) wh
   R = c.ring
 
   -- no block has a determinant of zero, less a number that is none of its eigenvalues
-  pub regular : (x : ℕ) (p q z w : A) → p ≡ eigen_p c x → q ≡ eigen_q c x → z ≡ w → eigen_p c x ≢ w → eigen_q c x ≢ w → determinant R p q z ≡ R.zero → ⊥
+  regular : (x : ℕ) (p q z w : A) → p ≡ eigen_p c x → q ≡ eigen_q c x → z ≡ w → eigen_p c x ≢ w → eigen_q c x ≢ w → determinant R p q z ≡ R.zero → ⊥
   regular x p q z w ep eq ez h k e =
       let r = divides (◌∸◌ R p z) (λ n. h (same_if c ok _ _ (sym (λ i. ◌∸◌ R (ep i) (ez i)) ∙ n))) in
       k (same_if c ok _ _ (sym (λ i. ◌∸◌ R (eq i) (ez i))

@@ -1,7 +1,7 @@
 -- One column of a file lent out, and what the file holds afterwards. Assumes nothing.
-use Rattle.std.proofs.Common.{◌≡◌, ℕ, ◌+◌, ◌-◌, ◌*◌, ◌^◌, ◌<◌, ◌≤◌, List, ◌++◌, map, length, slice_index_or, take, drop, sym, refl, ap, ap₂, ◌∙◌, subst, inl, inr, arith, rules, mul-le-mul_right}
+use Rattle.std.proofs.Common.{◌≡◌, ℕ, ◌+◌, ◌-◌, ◌*◌, ◌^◌, ◌<◌, ◌≤◌, List, ◌++◌, map, length, slice_index_or, take, drop, sym, refl, ap, ap₂, ◌∙◌, subst, inl, inr, arith, mul-le-mul_right}
 use Rattle.std.proofs.lemmas.Bool.{cases_order}
-use Rattle.std.proofs.lemmas.List.{take-map, drop-map, length-map, length-take, length-drop, map-append, get_or-take, get_or-drop, places}
+use Rattle.std.proofs.lemmas.List.{take-map, drop-map, length-map, length-take, length-drop, get_or-take, get_or-drop}
 use Rattle.std.proofs.lemmas.Nat.{mul-add-lt}
 use borrow.Rule.Slice.PartMut.{put_mid}
 use Rattle.field.specs.Symbols.{Symbols}
@@ -9,33 +9,21 @@ use Rattle.code.specs.Codes.{full}
 use Rattle.code.specs.Contents.{added, at, parts}
 use Rattle.columns.specs.Parities.{share}
 use Rattle.columns.specs.declared.parity.Parity.{Parity}
+use Rattle.columns.proofs.Mids.{map_mid, mid_after, mid_before, mid_inside}
 use Rattle.columns.proofs.Shares.{share_same}
 use Rattle.columns.proofs.Slices.{part}
 use Rattle.decoding.specs.Steps.{Kept, Replaced}
 
--- what stands inside and outside of an overwritten part
-mid_inside : {X : Type 0} (a k : ℕ) (xs ys : List X) (i : ℕ) (d : X) → a ≤ length xs → i < length ys → slice_index_or (put_mid a k xs ys) (a + i) d ≡ slice_index_or ys i d
-mid_inside a k xs ys i d h l = search (rules, places)
-
-mid_before : {X : Type 0} (a k : ℕ) (xs ys : List X) (i : ℕ) (d : X) → a ≤ length xs → i < a → slice_index_or (put_mid a k xs ys) i d ≡ slice_index_or xs i d
-mid_before a k xs ys i d h l = search (rules, places)
-
-mid_after : {X : Type 0} (a k : ℕ) (xs ys : List X) (i : ℕ) (d : X) → a ≤ length xs → length ys ≡ k → a + k ≤ i → slice_index_or (put_mid a k xs ys) i d ≡ slice_index_or xs i d
-mid_after a k xs ys i d h e l = search (rules, places)
-
 module _ (Y : Symbols) {S : Type 0} (v : S → Y.Symbol) where
-  map_mid : (a k : ℕ) (xs ys : List S) → map v (put_mid a k xs ys) ≡ put_mid a k (map v xs) (map v ys)
-  map_mid a k xs ys = search (map-append, take-map, drop-map)
-
   -- the column in place x of a file of columns of n symbols is overwritten
-  pub replaced : (n x s k : ℕ) (xs ys : List S) (C : ℕ → Y.Symbol) → s ≡ x * n → k ≡ n → x * n + n ≤ length xs → length ys ≡ n
+  replaced : (n x s k : ℕ) (xs ys : List S) (C : ℕ → Y.Symbol) → s ≡ x * n → k ≡ n → x * n + n ≤ length xs → length ys ≡ n
       → ((a : ℕ) → a < n → at Y v ys a ≡ C a) → Replaced n x (parts Y v n xs) C (parts Y v n (put_mid s k xs ys))
   replaced n x s k xs ys C es ek fits size holds = record {
     here = λ a l.
-        ap (λ i. at Y v (put_mid s k xs ys) (i + a)) (sym es) ∙ ap (λ zs. slice_index_or zs (s + a) Y.ring.zero) (map_mid s k xs ys)
+        ap (λ i. at Y v (put_mid s k xs ys) (i + a)) (sym es) ∙ ap (λ zs. slice_index_or zs (s + a) Y.ring.zero) (map_mid v s k xs ys)
         ∙ mid_inside s k (map v xs) (map v ys) a Y.ring.zero (simp length-map (omega arith)) (simp length-map (omega arith)) ∙ holds a l;
     others = λ b n' a l.
-        ap (λ zs. slice_index_or zs (b * n + a) Y.ring.zero) (map_mid s k xs ys)
+        ap (λ zs. slice_index_or zs (b * n + a) Y.ring.zero) (map_mid v s k xs ys)
         ∙ elim (cases_order b x) [
           | inl e ↦ absurd (n' e)
           | inr (inl h) ↦ mid_before s k (map v xs) (map v ys) (b * n + a) Y.ring.zero (simp length-map (omega arith)) (omega (arith, mul-add-lt b n a x h l))
@@ -54,7 +42,7 @@ module _ (Y : Symbols) {S : Type 0} (v : S → Y.Symbol) where
     is_start : start ≡ x * n
     is_start = ap (λ r. x * r) er
 
-    pub is_size : size ≡ n
+    is_size : size ≡ n
     is_size = omega (arith, er)
 
     fits : x * n + n ≤ length xs

@@ -18,7 +18,7 @@ use missing::{Missing, are_boxes};
 use refusal::{Refusal, fitting, refuse_if};
 
 // The data box in place x is missing, and the first parity column stands there.
-pub(crate) fn by_first<F: Sums>(cabinet: &Cabinet<F>, x: usize, file: &mut [F])
+fn by_first<F: Sums>(cabinet: &Cabinet<F>, x: usize, file: &mut [F])
     requires whole { let m = cabinet.now.size.m in length file.old ≡ 3 * m * 2 ^ m }
     requires data { x < 3 * cabinet.now.size.m }
     ensures { let m = cabinet.now.size.m in let columns = parts F.symbols F.value (2 ^ m) in ByFirst (full F.symbols m) x (columns file.old) (columns file.new) }
@@ -28,7 +28,7 @@ pub(crate) fn by_first<F: Sums>(cabinet: &Cabinet<F>, x: usize, file: &mut [F])
 }
 
 // The data box in place x is missing, and the second parity column stands there.
-pub(crate) fn by_second<F: Quotients>(cabinet: &Cabinet<F>, x: usize, file: &mut [F])
+fn by_second<F: Quotients>(cabinet: &Cabinet<F>, x: usize, file: &mut [F])
     requires whole { let m = cabinet.now.size.m in length file.old ≡ 3 * m * 2 ^ m }
     requires data { x < 3 * cabinet.now.size.m }
     ensures { let m = cabinet.now.size.m in let columns = parts F.symbols F.value (2 ^ m) in BySecond (full F.symbols m) x (columns file.old) (columns file.new) }
@@ -39,7 +39,7 @@ pub(crate) fn by_second<F: Quotients>(cabinet: &Cabinet<F>, x: usize, file: &mut
 
 // The data boxes in the places x and y are missing; the first parity column
 // stands in place x, and the second in place y.
-pub(crate) fn by_both<F: Quotients>(cabinet: &Cabinet<F>, x: usize, y: usize, file: &mut [F])
+fn by_both<F: Quotients>(cabinet: &Cabinet<F>, x: usize, y: usize, file: &mut [F])
     requires whole { let m = cabinet.now.size.m in length file.old ≡ 3 * m * 2 ^ m }
     requires first { x < 3 * cabinet.now.size.m }
     requires second { y < 3 * cabinet.now.size.m }

@@ -1,5 +1,4 @@
--- A solver for equations in a commutative ring: both sides, written as expressions, are brought to one sorted sum of signed products, by computation.
--- Assumes nothing.
+-- A solver for equations in a commutative ring: both sides, written as expressions, are brought to one sorted sum of signed products, by computation. Assumes nothing.
 use Rattle.std.proofs.Common.{◌≡◌, ℕ, zero, suc, Bool, true, false, not, ◌&&◌, IsTrue, ◌==◌, nat_lt, List, [], ◌∷◌, sym, refl, ap, ◌∙◌, ap₂}
 use Rattle.std.proofs.Math.Bool.{beq}
 use Rattle.std.proofs.lemmas.Bool.{and_parts, eqb-true, false≢true}

@@ -2,6 +2,7 @@
 #![tactic(auto)]
 
 ghost use Rattle.std.specs.Prelude.{◌≡◌, ℕ, ◌≤◌, IsTrue, MatchOption};
+ghost use Rattle.std.specs.Mem.{type_size};
 ghost use Rattle.field.specs.Ring.{Divides};
 ghost use Rattle.field.specs.Symbols.{Symbols};
 
@@ -24,6 +25,11 @@ pub trait Sums: Copy {
 
     // The value of the program with a number, so that no symbol has two.
     ghost of_number: { ℕ → Self };
+
+    // A symbol takes few bytes, so that an array of them can be lent: of a type
+    // whose size is not bounded the check does not admit that it fits in memory.
+    fn takes_few_bytes()
+        ensures { type_size Self.row ≤ 64 };
 
     fn zero() -> Self
         ensures { value result ≡ symbols.ring.zero };

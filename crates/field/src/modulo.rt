@@ -4,6 +4,26 @@ ghost use Rattle.field.specs.Residues.{Halved};
 
 use crate::residue::Residue;
 
+// Of two numbers below the size, by a comparison and a subtraction.
+#[inline(always)]
+pub(crate) fn sum<R: Residue>(a: u32, b: u32) -> u32
+    requires first { a < R.SIZE }
+    requires second { b < R.SIZE }
+    ensures { result ≡ (a + b) % R.SIZE }
+{
+    let sum = a + b;
+    if sum < R::SIZE { sum } else { sum - R::SIZE }
+}
+
+#[inline(always)]
+pub(crate) fn negative<R: Residue>(a: u32) -> u32
+    requires { a < R.SIZE }
+    ensures { result ≡ (R.SIZE - a) % R.SIZE }
+{
+    if a == 0 { 0 } else { R::SIZE - a }
+}
+
+#[inline(always)]
 pub(crate) fn product<R: Residue>(a: u32, b: u32) -> u32
     ensures { result ≡ (a * b) % R.SIZE }
 {

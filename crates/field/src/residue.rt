@@ -2,6 +2,7 @@
 #![tactic(auto, using(crate::proofs::Residues::residue_again, crate::proofs::Residues::settled))]
 
 ghost use Rattle.std.specs.Prelude.{◌≡◌, ℕ, ◌-◌, ◌^◌, ◌<◌, ◌≤◌};
+ghost use Rattle.std.specs.Mem.{type_size};
 ghost use Rattle.field.specs.Marks.{Marks};
 ghost use Rattle.field.specs.Numbers.{NumberOf, residue};
 ghost use Rattle.field.specs.Residues.{Prime, integers};
@@ -16,6 +17,11 @@ pub trait Residue: Copy {
 
     ghost SIZE: { ℕ };
 
+    // How many marks there are: all symbols but zero.
+    const MARK_COUNT: u32;
+
+    ghost MARK_COUNT: { ℕ };
+
     ghost above_one: { 1 < SIZE };
 
     ghost marks: { Marks SIZE };
@@ -23,6 +29,10 @@ pub trait Residue: Copy {
     ghost number: { Self → ℕ };
 
     ghost of_number: { ℕ → Self };
+
+    // What `takes_few_bytes` of Sums promises.
+    fn few_bytes()
+        ensures { type_size Self.row ≤ 64 };
 
     fn from_number(n: u32) -> Self
         requires { n < SIZE }
@@ -42,13 +52,15 @@ pub trait Residue: Copy {
     // Twice the size fits in 32 bits.
     ghost small: { SIZE < 2 ^ 31 };
 
-    ghost marks_agree: { SIZE - 1 ≡ marks.count };
+    ghost marks_agree: { MARK_COUNT ≡ marks.count };
+
+    ghost all_marked: { SIZE - 1 ≡ MARK_COUNT };
 }
 
 impl<R: Residue> Sums for R {
-    const MARKS: u32 = R::SIZE - 1;
+    const MARKS: u32 = R::MARK_COUNT;
 
-    ghost MARKS = { R.SIZE - 1 };
+    ghost MARKS = { R.MARK_COUNT };
 
     ghost symbols = { integers R.SIZE R.above_one R.marks };
 
@@ -58,6 +70,10 @@ impl<R: Residue> Sums for R {
 
     ghost marks_agree = { R.marks_agree };
 
+    fn takes_few_bytes() {
+        R::few_bytes()
+    }
+
     fn zero() -> R {
         R::from_number(0)
     }
@@ -66,14 +82,17 @@ impl<R: Residue> Sums for R {
         R::from_number(1)
     }
 
+    #[inline(always)]
     fn sum(self, other: R) -> R {
-        R::from_number((self.to_number() + other.to_number()) % R::SIZE)
+        R::from_number(modulo::sum::<R>(self.to_number(), other.to_number()))
     }
 
+    #[inline(always)]
     fn negative(self) -> R {
-        R::from_number((R::SIZE - self.to_number()) % R::SIZE)
+        R::from_number(modulo::negative::<R>(self.to_number()))
     }
 
+    #[inline(always)]
     fn product(self, other: R) -> R {
         R::from_number(modulo::product::<R>(self.to_number(), other.to_number()))
     }

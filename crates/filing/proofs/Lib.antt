@@ -1,3 +1,2 @@
-mod Images
 pub mod Restores
 pub mod Rewrites

@@ -2,7 +2,6 @@
 #![tactic(auto)]
 
 mod restoring;
-mod symbols;
 mod writing;
 
 pub use restoring::{restore, restore_out};

@@ -1,15 +1,33 @@
 // The columns of a file, written to the boxes of a stripe.
-ghost use Rattle.std.specs.Prelude.{◌≡◌, ◌+◌, ◌*◌, ◌^◌, ◌<◌, true, ◌&&◌, ◌==◌, [], ◌∷◌, length, IfOk, MatchResult};
-ghost use Rattle.code.specs.Contents.{parts};
+ghost use Rattle.std.specs.Prelude.{◌≡◌, ◌+◌, ◌*◌, ◌^◌, ◌<◌, ◌≤◌, true, ◌&&◌, ◌==◌, [], ◌∷◌, length, IfOk, MatchResult};
+ghost use Rattle.code.specs.Codes.{column as column_of, full};
+ghost use Rattle.code.specs.Contents.{Holds, parts};
 ghost use Rattle.refusal.specs.Refusals.{earliest, refusal, wrong_lengths};
 ghost use Rattle.stripe.specs.Stripes.{HoldsFile, OnlyStripe, has_stripe, no_stripe, stands};
 ghost use Rattle.filing.specs.Rewriting.{Rewritten};
 
-use crate::symbols::file_symbol;
+use boxes::{Cabinet, MOST_ROWS};
+use columns::{Parity, parity_column};
 use field::Sums;
 use refusal::{Refusal, fitting};
 use shelf::Shelf;
 use stripe::{Stripe, on_shelf};
+
+// The column that the parity box in place b holds of a file.
+fn parity_at<F: Sums>(cabinet: &Cabinet<F>, file: &[F], b: usize, column: &mut [F])
+    requires whole { let m = cabinet.now.size.m in length file.now ≡ 3 * m * 2 ^ m }
+    requires rows { length column.old ≡ 2 ^ cabinet.now.size.m }
+    requires parity { 3 * cabinet.now.size.m ≤ b }
+    requires inside { b < 3 * cabinet.now.size.m + 2 }
+    ensures { let m = cabinet.now.size.m in Holds F.symbols F.value (2 ^ m) column.new (column_of (full F.symbols m) (parts F.symbols F.value (2 ^ m) file.now) b) }
+{
+    let which = if b == cabinet.size.boxes() {
+        Parity::First
+    } else {
+        Parity::Second
+    };
+    parity_column(cabinet.size.m, which, file, column).unwrap();
+}
 
 // Writes what the box in place b holds of a file into its rows of the stripe, if it stands.
 pub(crate) fn write_box<F: Sums, S: Shelf<Symbol = F>>(
@@ -27,9 +45,16 @@ pub(crate) fn write_box<F: Sums, S: Shelf<Symbol = F>>(
     if !shelf.stands(b + 1) {
         return;
     }
-    for a in 0..stripe.cabinet.size.rows() {
-        let symbol = file_symbol(&stripe.cabinet, file, b, a);
-        shelf.store(b + 1, stripe.from + a, symbol);
+    let size = &stripe.cabinet.size;
+    let rows = size.rows();
+    if b < size.boxes() {
+        shelf.write_rows(b + 1, stripe.from, &file[b * rows..(b + 1) * rows]);
+    } else {
+        F::takes_few_bytes();
+        let mut symbols = [F::zero(); MOST_ROWS];
+        let column = &mut symbols[..rows];
+        parity_at(&stripe.cabinet, file, b, column);
+        shelf.write_rows(b + 1, stripe.from, column);
     }
 }
 

@@ -1,10 +1,11 @@
 // A shelf in a lent buffer of symbols, box after box.
 #![tactic(auto)]
 
-ghost use Rattle.std.specs.Prelude.{◌≡◌, ℕ, ◌<◌, ◌≤◌, length, slice_get, slice_set, MatchOption, Some, [], ◌∷◌};
-ghost use Rattle.frame.specs.Frames.{Absent, Opened, Present, Shut};
+ghost use Rattle.std.specs.Prelude.{◌≡◌, ℕ, ◌+◌, ◌<◌, ◌≤◌, length, slice_get, slice_range, slice_set, MatchOption, Some, [], ◌∷◌};
+ghost use Rattle.frame.specs.Frames.{Absent, Opened, Present, RowsAbsent, RowsPresent, Shut};
 ghost use Rattle.frame.specs.Layouts.{Keeps, all_out, filled};
 ghost use Rattle.shelf.specs.Calls.{after_all};
+ghost use Rattle.shelf.specs.Rows.{overwritten};
 ghost use Rattle.flat.specs.Held.{held, held_sound, lent};
 
 use frame::Frame;
@@ -42,6 +43,15 @@ fn fill<T: Copy>(s: &mut [T], places: Range<usize>, x: T)
     }
 }
 
+// Copies symbols into these places.
+fn copy_in<T: Copy>(s: &mut [T], places: Range<usize>, symbols: &[T])
+    requires size { places.end ≡ places.start + length symbols.now }
+    requires within { places.end ≤ length s.old }
+    ensures { s.new ≡ overwritten places.start symbols.now s.old }
+{
+    s[places].copy_from_slice(symbols);
+}
+
 impl<'a, T: Copy> Flat<'a, T> {
     // All boxes are out; there are none if the sizes are not allowed, or need
     // more than the buffer.
@@ -63,6 +73,14 @@ impl<'a, T: Copy> Flat<'a, T> {
         self.frame.place(self.buffer.len(), b, a)
     }
 
+    // Where so many rows of box b lie, from row `from` on, absent unless the box
+    // stands and has these rows.
+    fn places(&self, b: usize, from: usize, count: usize) -> Option<Range<usize>>
+        ensures { MatchOption result (RowsAbsent self.now.frame self.now.buffer.now b from count) (RowsPresent self.now.frame self.now.buffer.now b from count) }
+    {
+        self.frame.places(self.buffer.len(), b, from, count)
+    }
+
     // Marks box b as standing, and says where its column lies, absent unless it
     // is a box that is out.
     fn open(&mut self, b: usize) -> Option<Range<usize>>
@@ -79,6 +97,15 @@ impl<'a, T: Copy> Flat<'a, T> {
         ensures { slice_get self.now.buffer.now i ≡ Some result }
     {
         read(self.buffer, i)
+    }
+
+    // Copies these places of the buffer out.
+    fn symbols(&self, places: Range<usize>, out: &mut [T])
+        requires size { places.end ≡ places.start + length out.old }
+        requires within { places.end ≤ length self.now.buffer.now }
+        ensures { out.new ≡ slice_range self.now.buffer.now places.start places.end }
+    {
+        out.copy_from_slice(&self.buffer[places]);
     }
 
     // Lets the shelf go: the column of each box that stands is in the buffer.
@@ -137,6 +164,22 @@ impl<'a, T: Copy> Shelf for Flat<'a, T> {
             return false;
         };
         fill(self.buffer, places, x);
+        true
+    }
+
+    fn read_rows(&mut self, b: usize, from: usize, out: &mut [T]) -> bool {
+        let Some(places) = self.places(b, from, out.len()) else {
+            return false;
+        };
+        self.symbols(places, out);
+        true
+    }
+
+    fn write_rows(&mut self, b: usize, from: usize, symbols: &[T]) -> bool {
+        let Some(places) = self.places(b, from, symbols.len()) else {
+            return false;
+        };
+        copy_in(self.buffer, places, symbols);
         true
     }
 

@@ -61,6 +61,8 @@ impl Sums for Four {
 
     ghost marks_agree = { refl };
 
+    fn takes_few_bytes() {}
+
     fn zero() -> Four {
         Zero
     }

@@ -8,10 +8,12 @@ use Rattle.shelf.specs.Calls.{after_all}
 use Rattle.shelf.specs.declared.calls.Call.{Call}
 use Rattle.shelf.specs.Meaning.{Meaning, box_count, column, has_row, is_out, is_standing, with_out, with_standing, with_symbol}
 use Rattle.shelf.proofs.Meanings.{symbol_at_refused, with_out_refused, with_standing_refused, with_symbol_refused}
-use Rattle.frame.specs.Frames.{Absent, Opened, Present, Shut, framed, framed_sound, layout}
-use Rattle.frame.specs.Layouts.{Keeps, all_out, boxes_in, cut, filled, fits, is_allowed, is_out_in, laid, place_in, room_in, rows_in, stands_in, with_mark}
+use Rattle.shelf.specs.Rows.{has_rows}
+use Rattle.shelf.proofs.Rows.{refused}
+use Rattle.frame.specs.Frames.{Absent, Opened, Present, RowsAbsent, RowsPresent, Shut, framed, framed_sound, layout}
+use Rattle.frame.specs.Layouts.{Keeps, all_out, boxes_in, cut, filled, fits, is_allowed, is_out_in, laid, place_in, places_in, room_in, rows_in, stands_in, with_mark}
 use Rattle.frame.specs.declared.Frame.{Frame}
-use Rattle.frame.proofs.Rows.{box_count-laid, column_placed, has_row-laid, is_out-laid, is_standing-laid, place_within, room, room_within, symbol_at-laid, with_out-standing, with_standing-laid, with_symbol-laid}
+use Rattle.frame.proofs.Rows.{box_count-laid, column_placed, has_row-laid, has_rows-laid, is_out-laid, is_standing-laid, place_within, room, room_within, rows_at-laid, rows_within, symbol_at-laid, with_out-standing, with_rows-laid, with_standing-laid, with_symbol-laid}
 
 cut-all_out : {T : Type 0} (l n k : ℕ) (xs : List T) → n ≤ k → cut l (take n (replicate k false)) xs ≡ replicate n None
 cut-all_out l zero k xs h = refl
@@ -57,6 +59,23 @@ module _ {T : Type 0} (f : Frame) (xs : List T) (len : ℕ) (size : len ≡ leng
         symbol = symbol_at-laid (layout f) xs b a i e;
         changed = λ x. sym (with_symbol-laid (layout f) xs b a i x e);
       }
+
+  pub rows_located : (b from n : ℕ) (r : Option (Range ℕ)) → r ≡ places_in (layout f) len b from n → MatchOption r (RowsAbsent f xs b from n) (RowsPresent f xs b from n)
+  rows_located b from n r answer = by r (sym (answer ∙ ap (λ k. places_in (layout f) k b from n) size))
+    where
+      by : (r : Option (Range ℕ)) → places_in (layout f) (length xs) b from n ≡ r → MatchOption r (RowsAbsent f xs b from n) (RowsPresent f xs b from n)
+      by None e =
+          let h = has_rows-laid (layout f) xs b from n ∙ ap is_some e in
+          record { rows = h; same = λ ys k. refused (framed f xs) b from ys (framed_sound f xs) (ap (has_rows (framed f xs) b from) k ∙ h) }
+      by (Some places) e =
+          let w = rows_within (layout f) xs b from n places e in
+          record {
+            size = w.0;
+            within = w.1;
+            rows = has_rows-laid (layout f) xs b from n ∙ ap is_some e;
+            symbols = rows_at-laid (layout f) xs b from n places e;
+            changed = λ ys k. sym (with_rows-laid (layout f) xs b from n places ys e k);
+          }
 
   pub opened : (g : Frame) (b : ℕ) (r : Option (Range ℕ)) → r ≡ room_in (layout f) len b → layout g ≡ (if is_out_in (layout f) len b then with_mark (layout f) b true else layout f)
       → MatchOption r (Shut f g xs b) (Opened f g xs b)

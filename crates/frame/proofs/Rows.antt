@@ -1,30 +1,39 @@
 -- What the calls of a frame make of a row of symbols that it divides. Assumes nothing.
-use Rattle.std.proofs.Common.{◌≡◌, ℕ, zero, suc, ◌+◌, ◌-◌, ◌*◌, ◌≤◌, ◌<◌, Bool, true, false, not, ◌&&◌, nat_le, nat_lt, if◌then◌else◌, List, [], ◌∷◌, length, take, drop, slice_get, slice_index_or, slice_range, slice_set, Some, None, is_some, refl, sym, ap, ◌∙◌, arith, suc-add, inl, inr, length-set, length-take}
+use Rattle.std.proofs.Common.{◌≡◌, ℕ, zero, suc, ◌+◌, ◌-◌, ◌*◌, ◌≤◌, ◌<◌, Bool, true, false, not, ◌&&◌, nat_le, nat_lt, if◌then◌else◌, List, length, take, drop, slice_get, slice_index_or, slice_range, slice_set, Some, None, is_some, refl, sym, ap, ◌∙◌, arith, inl, inr, length-set, length-take}
 use Rattle.std.proofs.Math.Nat.{mul-le-mul_right, suc-mul}
 use Rattle.std.proofs.Math.Seq.{take-set-lt}
 use Rattle.std.proofs.lemmas.Bool.{and_parts, cases_lt, not-true, leb-true, le-leb, lt-leb, ltb-true}
-use Rattle.std.proofs.lemmas.List.{get_or-take, get_or_past, length-take-le}
+use Rattle.std.proofs.lemmas.List.{drop-drop, drop-take, get_or-take, get_or_past, length-take-le, take-take}
 use Rattle.std.proofs.lemmas.Option.{cond_some}
 use Rattle.std.specs.declared.ops.Range.{Range}
 use Rattle.shelf.specs.Meaning.{box_count, column, has_row, is_out, is_standing, symbol_at, symbol_of, with_out, with_standing, with_symbol}
-use Rattle.frame.specs.Layouts.{Layout, box_of, boxes_in, end_of, filled, is_marked, is_numbered, is_out_in, laid, place_in, room_in, rows_in, stands_in, start_of, with_mark}
+use Rattle.shelf.proofs.Cuts.{slice_get-drop, slice_get-take}
+use Rattle.shelf.specs.Rows.{has_rows, overwritten, rows_at, rows_of, with_rows}
+use Rattle.shelf.proofs.Columns.{length-overwritten}
+use Rattle.frame.specs.Layouts.{Layout, box_of, boxes_in, end_of, filled, is_marked, is_numbered, is_out_in, laid, place_in, places_in, room_in, rows_in, stands_in, start_of, with_mark}
 use Rattle.frame.specs.Frames.{layout_fits, length-cut}
-use Rattle.frame.proofs.Cuts.{cut_in, cut_out, cut_set, in_place-cut, length-filled}
-
-slice_get-take : {T : Type 0} (n : ℕ) (xs : List T) (i : ℕ) → i < n → slice_get (take n xs) i ≡ slice_get xs i
-slice_get-take zero xs i h = absurd (omega arith)
-slice_get-take (suc n) [] i h = refl
-slice_get-take (suc n) (x ∷ xs) zero h = refl
-slice_get-take (suc n) (x ∷ xs) (suc i) h = slice_get-take n xs i (omega arith)
-
-slice_get-drop : {T : Type 0} (n : ℕ) (xs : List T) (i : ℕ) → slice_get (drop n xs) i ≡ slice_get xs (n + i)
-slice_get-drop zero xs i = ap (slice_get xs) (omega arith)
-slice_get-drop (suc n) [] i = refl
-slice_get-drop (suc n) (x ∷ xs) i = slice_get-drop n xs i ∙ rw suc-add refl
+use Rattle.frame.proofs.Cuts.{cut_in, cut_out, cut_set, cut_written, in_place-cut, length-filled}
 
 is_some-box_of : {T : Type 0} (mark : Bool) (xs : List T) → is_some (box_of mark xs) ≡ mark
 is_some-box_of true xs = refl
 is_some-box_of false xs = refl
+
+some_if : {C : Type 0} (t : Bool) (c : C) → t ≡ is_some (if t then Some c else None)
+some_if true c = refl
+some_if false c = refl
+
+-- rows of l places from s on
+range_inside : {T : Type 0} (s l from n : ℕ) (xs : List T) → from + n ≤ l → slice_range (take l (drop s xs)) from (from + n) ≡ slice_range xs (s + from) (s + from + n)
+range_inside s l from n xs h =
+    let rest : l ≡ from + (l - from) = omega arith in
+    let some : from + n - from ≡ n = omega arith in
+    let same : s + from + n - (s + from) ≡ n = omega arith in
+    let sum : from + s ≡ s + from = omega arith in
+    rw (some, same)
+    (ap (λ k. take n (drop from (take k (drop s xs)))) rest
+    ∙ ap (take n) (drop-take from (l - from) (drop s xs))
+    ∙ take-take n (l - from) (drop from (drop s xs)) (omega arith)
+    ∙ ap (take n) (drop-drop from s xs))
 
 -- the marks of the first n boxes
 mark_of_first : (n i : ℕ) (marks : List Bool) → slice_index_or (take n marks) i false ≡ (nat_le (suc i) n && slice_index_or marks i false)
@@ -60,10 +69,10 @@ module _ {T : Type 0} (y : Layout) (xs : List T) where
 
   pub has_row-laid : (b a : ℕ) → has_row (laid y xs) b a ≡ is_some (place_in y (length xs) b a)
   has_row-laid b a = rw (is_standing-laid b) (some_if (stands_in y (length xs) b && nat_lt a l) (start_of l b + a))
-    where
-      some_if : (t : Bool) (n : ℕ) → t ≡ is_some (if t then Some n else None)
-      some_if true n = refl
-      some_if false n = refl
+
+  pub has_rows-laid : (b from n : ℕ) → has_rows (laid y xs) b from n ≡ is_some (places_in y (length xs) b from n)
+  has_rows-laid b from n =
+      rw (is_standing-laid b) (some_if (stands_in y (length xs) b && nat_le (from + n) l) (record { start = start_of l b + from; end = start_of l b + from + n }))
 
   -- a box that stands
   record Standing (b : ℕ) : Type 0 where
@@ -127,6 +136,45 @@ module _ {T : Type 0} (y : Layout) (xs : List T) where
       let fits = layout_fits y (length xs) in
       let inside : j < length (take n y.marks) = rw (length-take-le n y.marks (omega arith)) (omega (arith, p.stands.most)) in
       rw (p.place, k, length-set) (ap (λ cs. record { rows = l; boxes = cs }) (cut_set l j (take n y.marks) xs inside a x p.below))
+
+  -- several rows of a box that stands, and where they lie
+  record RowsPlaced (b from n : ℕ) (places : Range ℕ) : Type 0 where
+    stands : Standing b
+    fit : from + n ≤ l
+    first : places.start ≡ start_of l b + from
+    last : places.end ≡ start_of l b + from + n
+
+  rows_placed : (b from n : ℕ) (places : Range ℕ) → places_in y (length xs) b from n ≡ Some places → RowsPlaced b from n places
+  rows_placed b from n places e =
+      let p = cond_some (stands_in y (length xs) b && nat_le (from + n) l) (record { start = start_of l b + from; end = start_of l b + from + n }) places e in
+      let q = and_parts (stands_in y (length xs) b) _ p.0 in
+      record { stands = standing b q.0; fit = leb-true (from + n) l q.1; first = sym (ap (λ t. t.start) p.1); last = sym (ap (λ t. t.end) p.1) }
+
+  pub rows_within : (b from n : ℕ) (places : Range ℕ) → places_in y (length xs) b from n ≡ Some places → (places.end ≡ places.start + n) × (places.end ≤ length xs)
+  rows_within b from n places e =
+      let p = rows_placed b from n places e in
+      let h = box_within b p.stands.some p.stands.most in
+      (omega (arith, p.first, p.last), omega (arith, p.fit, p.last))
+
+  pub rows_at-laid : (b from n : ℕ) (places : Range ℕ) → places_in y (length xs) b from n ≡ Some places → rows_at (laid y xs) b from n ≡ slice_range xs places.start places.end
+  rows_at-laid zero from n places e = let p = rows_placed zero from n places e in absurd (omega (arith, p.stands.some))
+  rows_at-laid (suc j) from n places e =
+      let p = rows_placed (suc j) from n places e in
+      let k : suc j - 1 ≡ j = omega arith in
+      rw (p.first, p.last, k) (ap (λ o. rows_of o from n) (column_standing j p.stands) ∙ range_inside (j * l) l from n xs p.fit)
+
+  pub with_rows-laid : (b from n : ℕ) (places : Range ℕ) (ys : List T) → places_in y (length xs) b from n ≡ Some places → length ys ≡ n
+      → laid y (overwritten places.start ys xs) ≡ with_rows (laid y xs) b from ys
+  with_rows-laid zero from n places ys e size = let p = rows_placed zero from n places e in absurd (omega (arith, p.stands.some))
+  with_rows-laid (suc j) from n places ys e size =
+      let p = rows_placed (suc j) from n places e in
+      let k : suc j - 1 ≡ j = omega arith in
+      let count = boxes_in y (length xs) in
+      let fits = layout_fits y (length xs) in
+      let inside : j < length (take count y.marks) = rw (length-take-le count y.marks (omega arith)) (omega (arith, p.stands.most)) in
+      let h = box_within (suc j) p.stands.some p.stands.most in
+      rw (p.first, k, length-overwritten)
+      (ap (λ cs. record { rows = l; boxes = cs }) (cut_written l j (take count y.marks) xs inside from ys (omega (arith, p.fit)) (rw k at h)))
 
   -- a box that is out, and where its column will lie
   pub record Room (b : ℕ) (places : Range ℕ) : Type 0 where

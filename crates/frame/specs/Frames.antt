@@ -1,11 +1,12 @@
 -- What a frame makes of a row of symbols: always a shelf. Assumes nothing.
-use Rattle.std.specs.Prelude.{◌≡◌, ℕ, suc, ◌*◌, ◌≤◌, ◌<◌, Bool, true, false, List, [], ◌∷◌, length, take, drop, slice_get, slice_set, None, refl}
+use Rattle.std.specs.Prelude.{◌≡◌, ℕ, suc, ◌+◌, ◌*◌, ◌≤◌, ◌<◌, Bool, true, false, List, [], ◌∷◌, length, take, drop, slice_get, slice_range, slice_set, None, refl}
 use Rattle.std.proofs.Common.{ap, arith, length-drop, length-take}
 use Rattle.std.proofs.Math.Nat.{mul-le-mul_right, suc-mul}
 use Rattle.std.proofs.lemmas.Bool.Decides.{nat_tests}
 use Rattle.std.proofs.lemmas.List.{length-take-le}
 use Rattle.std.specs.declared.ops.Range.{Range}
 use Rattle.shelf.specs.Meaning.{AllHave, IsShelf, Meaning, has_row, is_out, symbol_at, with_standing, with_symbol}
+use Rattle.shelf.specs.Rows.{has_rows, overwritten, rows_at, with_rows}
 use Rattle.frame.specs.Layouts.{Layout, boxes_in, cut, filled, laid, rows_in}
 use Rattle.frame.specs.declared.Frame.{Frame}
 
@@ -68,6 +69,19 @@ pub record Present {T : Type 0} (f : Frame) (xs : List T) (b a i : ℕ) : Type 0
 pub record Absent {T : Type 0} (f : Frame) (xs : List T) (b a : ℕ) : Type 0 where
   pub row : has_row (framed f xs) b a ≡ false
   pub symbol : symbol_at (framed f xs) b a ≡ None
+
+-- these places hold n rows of box b, from row `from` on
+pub record RowsPresent {T : Type 0} (f : Frame) (xs : List T) (b from n : ℕ) (places : Range ℕ) : Type 0 where
+  pub size : places.end ≡ places.start + n
+  pub within : places.end ≤ length xs
+  pub rows : has_rows (framed f xs) b from n ≡ true
+  pub symbols : rows_at (framed f xs) b from n ≡ slice_range xs places.start places.end
+  pub changed : (ys : List T) → length ys ≡ n → with_rows (framed f xs) b from ys ≡ framed f (overwritten places.start ys xs)
+
+-- box b is out, or has not so many rows
+pub record RowsAbsent {T : Type 0} (f : Frame) (xs : List T) (b from n : ℕ) : Type 0 where
+  pub rows : has_rows (framed f xs) b from n ≡ false
+  pub same : (ys : List T) → length ys ≡ n → with_rows (framed f xs) b from ys ≡ framed f xs
 
 -- box b has come in, and its column lies in these places: g is the frame that has it
 pub record Opened {T : Type 0} (f g : Frame) (xs : List T) (b : ℕ) (places : Range ℕ) : Type 0 where

@@ -66,6 +66,11 @@ end_of l b = start_of l b + l
 abbrev pub place_in : Layout → ℕ → ℕ → ℕ → Option ℕ
 place_in y len b a = if stands_in y len b && nat_lt a (rows_in y len) then Some (start_of (rows_in y len) b + a) else None
 
+-- where n rows of box b from row `from` on lie, if the box stands and has so many
+abbrev pub places_in : Layout → ℕ → ℕ → ℕ → ℕ → Option (Range ℕ)
+places_in y len b from n =
+    if stands_in y len b && nat_le (from + n) (rows_in y len) then Some (record { start = start_of (rows_in y len) b + from; end = start_of (rows_in y len) b + from + n }) else None
+
 -- where the column of box b will lie, if the box is out
 abbrev pub room_in : Layout → ℕ → ℕ → Option (Range ℕ)
 room_in y len b = if is_out_in y len b then Some (record { start = start_of (rows_in y len) b; end = end_of (rows_in y len) b }) else None

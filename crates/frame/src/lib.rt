@@ -25,7 +25,7 @@ pub struct Frame {
 // such a fact cannot be a type argument, as a shelf is to a joined one.
 impl Frame {
     ghost use Rattle.frame.specs.Frames.{layout};
-    ghost use Rattle.frame.specs.Layouts.{boxes_in, fits, is_numbered, is_out_in, place_in, room_in, rows_in, stands_in, with_mark};
+    ghost use Rattle.frame.specs.Layouts.{boxes_in, fits, is_numbered, is_out_in, place_in, places_in, room_in, rows_in, stands_in, with_mark};
 
     // All boxes are out.
     pub fn new(boxes: usize, rows: usize) -> Frame
@@ -83,6 +83,19 @@ impl Frame {
     {
         if self.stands(len, b) && a < self.rows {
             Some((b - 1) * self.rows + a)
+        } else {
+            None
+        }
+    }
+
+    // Where so many rows of box b lie, from row `from` on, absent unless the box
+    // stands and has these rows.
+    pub fn places(&self, len: usize, b: usize, from: usize, count: usize) -> Option<Range<usize>>
+        ensures { result ≡ places_in (layout self.now) len b from count }
+    {
+        if self.stands(len, b) && from <= self.rows && count <= self.rows - from {
+            let start = (b - 1) * self.rows + from;
+            Some(start..start + count)
         } else {
             None
         }

@@ -91,7 +91,7 @@ module _ {S : Type 0} where
       turned : (o : Option Refusal) → earliest (by_flags flags store msg) ≡ o → filled m x before (msg ∷ rest) store ≡ (if is_some o then store else filled m x (before ++ msg ∷ []) rest next)
       turned o e = ap (λ r. if is_some r then store else filled m x (before ++ msg ∷ []) rest next) (sym (by_messages (length store) refl) ∙ e)
 
-      pub stopped : (why : Refusal) → earliest (by_flags flags store msg) ≡ Some why → (earliest (reasons m x (length start) [] all) ≡ Some why) × (filled m x [] all start ≡ store)
+      stopped : (why : Refusal) → earliest (by_flags flags store msg) ≡ Some why → (earliest (reasons m x (length start) [] all) ≡ Some why) × (filled m x [] all start ≡ store)
       stopped why e = (
         sym stands.reasons_of_rest ∙ earliest_some (message_reasons m x (length start) before msg) _ why (sym (by_messages (length start) stands.long) ∙ e),
         sym stands.store_of_rest ∙ turned (Some why) e,
@@ -124,7 +124,7 @@ module _ {S : Type 0} where
                   ∙ h.placed;
             }
 
-        pub turn : Midway all start (before ++ msg ∷ []) rest (slice_set flags (msg.helper - 1) true) next
+        turn : Midway all start (before ++ msg ∷ []) rest (slice_set flags (msg.helper - 1) true) next
         turn =
             let a = is_accepted in record {
               flags_long = length-set flags (msg.helper - 1) true ∙ stands.flags_long;

@@ -1,1 +1,2 @@
+pub mod Copies
 pub mod Triples

@@ -1,13 +1,14 @@
 // A shelf of words in a lent buffer of bytes: three to a word, the highest first.
 #![tactic(auto)]
 
-ghost use Rattle.std.specs.Prelude.{◌≡◌, ℕ, ◌/◌, ◌<◌, ◌≤◌, [], ◌∷◌, length, slice_get, slice_set, MatchOption, Some};
-ghost use Rattle.frame.specs.Frames.{Absent, Opened, Present, Shut};
+ghost use Rattle.std.specs.Prelude.{◌≡◌, ℕ, ◌+◌, ◌/◌, ◌<◌, ◌≤◌, [], ◌∷◌, length, slice_get, slice_range, slice_set, MatchOption, Some};
+ghost use Rattle.frame.specs.Frames.{Absent, Opened, Present, RowsAbsent, RowsPresent, Shut};
 ghost use Rattle.frame.specs.Layouts.{Keeps, all_out, filled};
 ghost use Rattle.image.specs.Held.{held, held_sound, lent};
 ghost use Rattle.prime.specs.Words.{word_number};
 ghost use Rattle.image.specs.Triples.{number_at, with_number, word_at, words};
 ghost use Rattle.shelf.specs.Calls.{after_all};
+ghost use Rattle.shelf.specs.Rows.{overwritten};
 
 use field::residue::Residue;
 use frame::Frame;
@@ -80,6 +81,30 @@ fn fill(s: &mut [u8], places: Range<usize>, x: Words)
     }
 }
 
+// Copies the words in these places out.
+#[tactic(auto, using(crate::proofs::Triples::length_words, crate::proofs::Copies::copied_more, crate::proofs::Copies::copied_all))]
+fn copy_out(s: &[u8], places: Range<usize>, out: &mut [Words])
+    requires size { places.end ≡ places.start + length out.old }
+    requires within { places.end ≤ length (words s.now) }
+    ensures { out.new ≡ slice_range (words s.now) places.start places.end }
+{
+    for (i, symbol) in out.iter_mut().enumerate() {
+        *symbol = read(s, places.start + i);
+    }
+}
+
+// Copies words into these places.
+#[tactic(auto, using(crate::proofs::Triples::length_words, crate::proofs::Copies::written_more))]
+fn copy_in(s: &mut [u8], places: Range<usize>, symbols: &[Words])
+    requires size { places.end ≡ places.start + length symbols.now }
+    requires within { places.end ≤ length (words s.old) }
+    ensures { words s.new ≡ overwritten places.start symbols.now (words s.old) }
+{
+    for (i, symbol) in symbols.iter().enumerate() {
+        put(s, places.start + i, *symbol);
+    }
+}
+
 impl<'a> Image<'a> {
     // All boxes are out; there are none if the sizes are not allowed, or need
     // more words than the buffer has room for.
@@ -108,6 +133,14 @@ impl<'a> Image<'a> {
         self.frame.place(self.room(), b, a)
     }
 
+    // Where so many rows of box b lie, from row `from` on, absent unless the box
+    // stands and has these rows.
+    fn places(&self, b: usize, from: usize, count: usize) -> Option<Range<usize>>
+        ensures { MatchOption result (RowsAbsent self.now.frame (words self.now.buffer.now) b from count) (RowsPresent self.now.frame (words self.now.buffer.now) b from count) }
+    {
+        self.frame.places(self.room(), b, from, count)
+    }
+
     // Marks box b as standing, and says where its column lies, absent unless it
     // is a box that is out.
     fn open(&mut self, b: usize) -> Option<Range<usize>>
@@ -125,6 +158,15 @@ impl<'a> Image<'a> {
         ensures { slice_get (words self.now.buffer.now) i ≡ Some result }
     {
         read(self.buffer, i)
+    }
+
+    // Copies these places of the buffer out.
+    fn symbols(&self, places: Range<usize>, out: &mut [Words])
+        requires size { places.end ≡ places.start + length out.old }
+        requires within { places.end ≤ length (words self.now.buffer.now) }
+        ensures { out.new ≡ slice_range (words self.now.buffer.now) places.start places.end }
+    {
+        copy_out(self.buffer, places, out);
     }
 
     // Lets the shelf go: the column of each box that stands is in the buffer.
@@ -184,6 +226,22 @@ impl<'a> Shelf for Image<'a> {
             return false;
         };
         fill(self.buffer, places, x);
+        true
+    }
+
+    fn read_rows(&mut self, b: usize, from: usize, out: &mut [Words]) -> bool {
+        let Some(places) = self.places(b, from, out.len()) else {
+            return false;
+        };
+        self.symbols(places, out);
+        true
+    }
+
+    fn write_rows(&mut self, b: usize, from: usize, symbols: &[Words]) -> bool {
+        let Some(places) = self.places(b, from, symbols.len()) else {
+            return false;
+        };
+        copy_in(self.buffer, places, symbols);
         true
     }
 

@@ -1,8 +1,9 @@
 // Two shelves as one: the boxes of the first, and then those of the second.
 #![tactic(auto)]
 
-ghost use Rattle.std.specs.Prelude.{◌≡◌, ℕ, ◌+◌, ◌++◌, ◌&&◌, ◌==◌, nat_le};
+ghost use Rattle.std.specs.Prelude.{◌≡◌, ℕ, ◌+◌, ◌++◌, ◌&&◌, ◌==◌, length, nat_le};
 ghost use Rattle.shelf.specs.Meaning.{box_count, has_row, is_out, is_standing, symbol_at, with_out, with_standing, with_symbol};
+ghost use Rattle.shelf.specs.Rows.{has_rows, rows_read, with_rows};
 ghost use Rattle.joined.specs.Joining.{joined};
 ghost use Rattle.joined.specs.Laws.{Associates, Joins};
 ghost use Rattle.joined.specs.Parts.{apart, change_apart, parts};
@@ -201,6 +202,38 @@ impl<A: Shelf, B: Shelf<Symbol = A::Symbol>> Shelf for Joined<A, B> {
         match self.side(b) {
             Side::First(d) => self.first.insert(d, x),
             Side::Second(d) => self.second.insert(d, x),
+            Side::Neither => false,
+        }
+    }
+
+    fn read_rows(&mut self, b: usize, from: usize, out: &mut [A::Symbol]) -> bool
+        ensures answer { result ≡ has_rows (⟦<Joined<A, B> as Shelf>⟧.meaning self.old) b from (length out.old) }
+        ensures buffer { out.new ≡ rows_read (⟦<Joined<A, B> as Shelf>⟧.meaning self.old) b from out.old }
+        ensures stays { ⟦<Joined<A, B> as Shelf>⟧.meaning self.new
+            ≡ ⟦<Joined<A, B> as Shelf>⟧.meaning self.old }
+        ensures apart { apart A.meaning B.meaning self.new ≡ apart A.meaning B.meaning self.old }
+        ensures lender { ⟦<Joined<A, B> as Shelf>⟧.buffers self.new
+            ≡ ⟦<Joined<A, B> as Shelf>⟧.buffers self.old }
+    {
+        match self.side(b) {
+            Side::First(d) => self.first.read_rows(d, from, out),
+            Side::Second(d) => self.second.read_rows(d, from, out),
+            Side::Neither => false,
+        }
+    }
+
+    fn write_rows(&mut self, b: usize, from: usize, symbols: &[A::Symbol]) -> bool
+        ensures answer { result ≡ has_rows (⟦<Joined<A, B> as Shelf>⟧.meaning self.old) b from (length symbols.now) }
+        ensures after { ⟦<Joined<A, B> as Shelf>⟧.meaning self.new
+            ≡ with_rows (⟦<Joined<A, B> as Shelf>⟧.meaning self.old) b from symbols.now }
+        ensures apart { apart A.meaning B.meaning self.new
+            ≡ change_apart (λ m d. with_rows m d from symbols.now) (apart A.meaning B.meaning self.old) b }
+        ensures lender { ⟦<Joined<A, B> as Shelf>⟧.buffers self.new
+            ≡ ⟦<Joined<A, B> as Shelf>⟧.buffers self.old }
+    {
+        match self.side(b) {
+            Side::First(d) => self.first.write_rows(d, from, symbols),
+            Side::Second(d) => self.second.write_rows(d, from, symbols),
             Side::Neither => false,
         }
     }

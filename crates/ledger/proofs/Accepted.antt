@@ -83,7 +83,7 @@ module _ (Y : Symbols) where
     leaves (Rebuild work) = refl
 
     module _ (lawful : IsLedger Y l) where
-      pub set_up_with : (l.state.size ≡ None → ⊥) → IsSetUp Y l m
+      set_up_with : (l.state.size ≡ None → ⊥) → IsSetUp Y l m
       set_up_with h = lawful.set_up m (some_size l.state.size h)
 
       pub whole : (l.state.size ≡ None → ⊥) → length l.file ≡ 3 * m * 2 ^ m

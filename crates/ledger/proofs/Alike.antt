@@ -1,13 +1,10 @@
 -- What a call leaves in its buffer is the same for files that are the same. Assumes nothing.
-use Rattle.std.proofs.Common.{◌≡◌, ℕ, suc, ◌+◌, ◌-◌, ◌*◌, ◌^◌, ◌<◌, ◌≤◌, Bool, true, false, nat_lt, List, sym, ap₂, ◌∙◌, cond, arith}
+use Rattle.std.proofs.Common.{◌≡◌, ℕ, suc, ◌+◌, ◌-◌, ◌*◌, ◌^◌, ◌<◌, ◌≤◌, Bool, true, false, nat_lt, List, sym, ◌∙◌, cond, arith}
 use Rattle.field.specs.Symbols.{Symbols}
-use Rattle.code.specs.Blocks.{half}
-use Rattle.code.specs.Codes.{Alike, Code, column, full, half_for, helper, kind, shift}
+use Rattle.code.specs.Codes.{Alike, Code, column, full, half_for, helper}
 use Rattle.code.specs.Laws.{Same}
-use Rattle.code.specs.Rows.{lower}
-use Rattle.code.proofs.Pairing.{lower_below, upper_below}
-use Rattle.code.proofs.Stands.{same_columns}
-use Rattle.code.proofs.Theory.{proper, shift_below}
+use Rattle.code.proofs.Stands.{same_columns, same_halves}
+use Rattle.code.proofs.Theory.{proper}
 use Rattle.refusal.specs.declared.Refusal.TheVariants.{NoBox}
 use Rattle.ledger.specs.Laws.{IsSetUp, Leaves}
 use Rattle.ledger.specs.Ledgers.{LedgerCall, Ledger}
@@ -16,13 +13,6 @@ use Rattle.ledger.specs.declared.calls.Call.TheVariants.{SetUp, Put, Amend, Read
 use Rattle.ledger.proofs.Steps.{Clear}
 
 module _ {A : Type 0} (c : Code A) (some : 1 ≤ c.size) where
-  -- columns that are the same have the same halves
-  pub half_same : (x : ℕ) (C E : ℕ → A) → Alike c C E → (j : ℕ) → j < 2 ^ (c.size - 1) → half_for c x C j ≡ half_for c x E j
-  half_same x C E s j l =
-      let k = shift c x in
-      let inside = shift_below c x some in
-      ap₂ (half c.ring (kind c x)) (s (lower k j) (lower_below c.size k j inside l)) (s (lower k j + 2 ^ k) (upper_below c.size k j inside l))
-
   either_inside : (t : Bool) (h n : ℕ) → h < suc n → cond t h (suc h) < n + 2
   either_inside true h n l = omega arith
   either_inside false h n l = omega arith
@@ -41,7 +31,7 @@ module _ (Y : Symbols) (l : Ledger Y) (f g : ℕ → ℕ → Y.Symbol) (set_up :
   columns = same_columns c (proper Y m set_up.some set_up.marks) f g same
 
   halves : (x b : ℕ) → b < 3 * m + 2 → (j : ℕ) → j < 2 ^ (m - 1) → half_for c x (column c f b) j ≡ half_for c x (column c g b) j
-  halves x b l = half_same c set_up.some x (column c f b) (column c g b) (columns b l)
+  halves x b l = same_halves c set_up.some x (column c f b) (column c g b) (columns b l)
 
   pub leaves_alike : (call : LedgerCall Y) (buffer file : List Y.Symbol) → Clear Y l call → Leaves Y m f call buffer file → Leaves Y m g call buffer file
   leaves_alike (SetUp k) buffer file clear h = h

@@ -1,5 +1,5 @@
 -- Boxes that are out and boxes that stand are all boxes. Assumes nothing.
-use Rattle.std.proofs.Common.{◌≡◌, ℕ, zero, suc, ◌+◌, ◌≤◌, Bool, true, false, not, cond, if◌then◌else◌, nat_lt, [], ◌∷◌, ◌++◌, count_by, refl, sym, ap, ap₂, ◌∙◌, arith}
+use Rattle.std.proofs.Common.{◌≡◌, ℕ, zero, suc, ◌+◌, ◌≤◌, Bool, true, false, not, cond, if◌then◌else◌, nat_lt, [], ◌∷◌, ◌++◌, count_by, refl, sym, ap, ◌∙◌, arith}
 use Rattle.std.specs.List.{range_with_len}
 use Rattle.std.proofs.lemmas.Bool.Decides.{nat_tests}
 use Rattle.std.proofs.lemmas.List.{map-id}
@@ -9,7 +9,7 @@ use Rattle.code.specs.Standing.{standing}
 use Rattle.ledger.specs.Calls.{State, boxes_of, out_count, size_of, stands}
 use Rattle.ledger.proofs.Tests.{Says}
 
-pub range_more : (a n : ℕ) → range_with_len a (suc n) ≡ range_with_len a n ++ (a + n) ∷ []
+range_more : (a n : ℕ) → range_with_len a (suc n) ≡ range_with_len a n ++ (a + n) ∷ []
 range_more a n =
     ap (range_with_len a) (let e : suc n ≡ n + 1 = omega arith in e) ∙ sym (map-id (range_with_len a (n + 1))) ∙ map-range_with_len_more (λ x. x) a n (a + n) refl
     ∙ ap (λ xs. xs ++ (a + n) ∷ []) (map-id (range_with_len a n))
@@ -35,10 +35,6 @@ module _ (out : ℕ → Bool) where
   all_boxes (suc n) =
       ap (λ c. c + standing (λ b. not (out (suc b))) (suc n)) (count_more n)
       ∙ turn (out (suc n)) (count_by out (range_with_len 1 n)) (standing (λ b. not (out (suc b))) n) n (all_boxes n)
-
-  pub none_out : ((b : ℕ) → out b ≡ false) → (n : ℕ) → count_by out (range_with_len 1 n) ≡ 0
-  none_out h zero = refl
-  none_out h (suc n) = count_more n ∙ ap₂ (λ c t. c + cond t 1 0) (none_out h n) (h (suc n))
 
 module _ (s : State) where
   abbrev n : ℕ

@@ -1,5 +1,5 @@
 -- The reasons of each call rise, and are those that fit. Assumes nothing.
-use Rattle.std.proofs.Common.{◌≡◌, ℕ, ◌+◌, ◌*◌, inl, inr, Bool, false, not, ◌&&◌, ◌||◌, ◌==◌, nat_le, nat_lt, List, [], ◌∷◌, length, lit≤, refl}
+use Rattle.std.proofs.Common.{◌≡◌, ℕ, ◌+◌, ◌*◌, inl, inr, Bool, false, not, ◌&&◌, ◌||◌, ◌==◌, nat_le, nat_lt, List, [], ◌∷◌, length, lit≤, refl, subst, sym}
 use Rattle.std.specs.Option.{is_none}
 use Rattle.field.specs.Symbols.{Symbols}
 use Rattle.code.specs.Standing.{standing}
@@ -165,18 +165,6 @@ module _ (Y : Symbols) (s : State) where
     renew_among b work NotRenewable (inr h) = later (later (later (later (later (later (here ((two s).if_holds h)))))))
     renew_among b work why h = absurd h
 
-    put_fits : (file : List T) (why : Refusal) → Among (tests (Put file)) why → Fits Y s why (Put file)
-    put_fits file why (here e) = (absent s.size).if_true e
-    put_fits file why (later (here e)) = (wrong _ _).if_true e
-    put_fits file why (later (later (here e))) = (three s).if_true e
-    put_fits file why (later (later (later a))) = elim a [ ]
-
-    put_among : (file : List T) (why : Refusal) → Fits Y s why (Put file) → Among (tests (Put file)) why
-    put_among file NotSetUp h = here ((absent s.size).if_holds h)
-    put_among file Length h = later (here ((wrong _ _).if_holds h))
-    put_among file ManyOut h = later (later (here ((three s).if_holds h)))
-    put_among file why h = absurd h
-
     read_fits : (into : List T) (why : Refusal) → Among (tests (Read into)) why → Fits Y s why (Read into)
     read_fits into why (here e) = (absent s.size).if_true e
     read_fits into why (later (here e)) = (wrong _ _).if_true e
@@ -189,37 +177,34 @@ module _ (Y : Symbols) (s : State) where
     read_among into ManyOut h = later (later (here ((three s).if_holds h)))
     read_among into why h = absurd h
 
-    rebuild_fits : (work : List T) (why : Refusal) → Among (tests (Rebuild work)) why → Fits Y s why (Rebuild work)
-    rebuild_fits work why (here e) = (absent s.size).if_true e
-    rebuild_fits work why (later (here e)) = (wrong _ _).if_true e
-    rebuild_fits work why (later (later (here e))) = (three s).if_true e
-    rebuild_fits work why (later (later (later a))) = elim a [ ]
+    -- a put, a read and a rebuild are declined alike
+    put_as_read : (file : List T) (why : Refusal) → Fits Y s why (Read file) ≡ Fits Y s why (Put file)
+    put_as_read file NotSetUp = refl
+    put_as_read file why = refl
 
-    rebuild_among : (work : List T) (why : Refusal) → Fits Y s why (Rebuild work) → Among (tests (Rebuild work)) why
-    rebuild_among work NotSetUp h = here ((absent s.size).if_holds h)
-    rebuild_among work Length h = later (here ((wrong _ _).if_holds h))
-    rebuild_among work ManyOut h = later (later (here ((three s).if_holds h)))
-    rebuild_among work why h = absurd h
+    rebuild_as_read : (work : List T) (why : Refusal) → Fits Y s why (Read work) ≡ Fits Y s why (Rebuild work)
+    rebuild_as_read work NotSetUp = refl
+    rebuild_as_read work why = refl
 
     -- what holds of a call's tests is what fits the call
     pub fits : (call : Call T (List T)) (why : Refusal) → Among (tests call) why → Fits Y s why call
     fits (SetUp k) = set_up_fits k
-    fits (Put file) = put_fits file
+    fits (Put file) = λ why a. subst (λ X. X) (put_as_read file why) (read_fits file why a)
     fits (Amend b a x work) = amend_fits b a x work
     fits (Read into) = read_fits into
     fits (Column b into) = column_fits b into
     fits (Message helper lost into) = message_fits helper lost into
     fits (Lose b) = lose_fits b
     fits (Renew b work) = renew_fits b work
-    fits (Rebuild work) = rebuild_fits work
+    fits (Rebuild work) = λ why a. subst (λ X. X) (rebuild_as_read work why) (read_fits work why a)
 
     pub among : (call : Call T (List T)) (why : Refusal) → Fits Y s why call → Among (tests call) why
     among (SetUp k) = set_up_among k
-    among (Put file) = put_among file
+    among (Put file) = λ why h. read_among file why (subst (λ X. X) (sym (put_as_read file why)) h)
     among (Amend b a x work) = amend_among b a x work
     among (Read into) = read_among into
     among (Column b into) = column_among b into
     among (Message helper lost into) = message_among helper lost into
     among (Lose b) = lose_among b
     among (Renew b work) = renew_among b work
-    among (Rebuild work) = rebuild_among work
+    among (Rebuild work) = λ why h. read_among work why (subst (λ X. X) (sym (rebuild_as_read work why)) h)

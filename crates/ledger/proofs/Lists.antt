@@ -1,13 +1,13 @@
 -- Lists made from functions. Assumes nothing.
-use Rattle.std.proofs.Common.{◌≡◌, ℕ, zero, suc, ◌+◌, ◌*◌, ◌/◌, ◌%◌, ◌<◌, List, length, map, get_or, inl, inr, sym, ap, ◌∙◌, length-append, arith}
+use Rattle.std.proofs.Common.{◌≡◌, ℕ, zero, suc, ◌+◌, ◌*◌, ◌/◌, ◌%◌, ◌<◌, List, length, map, get_or, ⊎_elim, inl, inr, sym, ap, ◌∙◌, length-append, arith}
 use Rattle.std.specs.List.{flat_map, range_with_len}
-use Rattle.std.proofs.lemmas.List.{ext_get_or, get_or_append_left, get_or-append_right, length-map, map-id}
+use Rattle.std.proofs.lemmas.List.{ext_get_or, get_or_append_left, get_or-append_right, get_or_past, get_or-replicate, length-map, length-replicate, map-id}
 use Rattle.std.proofs.lemmas.Nat.{div-add-mod', div_below, mod_below}
-use Rattle.std.proofs.lemmas.Bool.{cases_eq}
+use Rattle.std.proofs.lemmas.Bool.{cases_eq, cases_lt}
 use Rattle.std.proofs.lemmas.List.FromFn.{get_or-map-range_with_len, length-map-range_with_len}
 use Rattle.field.specs.Symbols.{Symbols}
 use Rattle.code.specs.Contents.{Holds, at, parts}
-use Rattle.ledger.specs.Ledgers.{listed}
+use Rattle.ledger.specs.Ledgers.{listed, zeros}
 
 module _ {X : Type 0} where
   pub length-listed : (n : ℕ) (f : ℕ → X) → length (listed n f) ≡ n
@@ -41,6 +41,13 @@ module _ (Y : Symbols) where
   -- what is in a place of a list of symbols
   pub at_is : (xs : List Y.Symbol) (i : ℕ) → at Y (λ x. x) xs i ≡ get_or xs i Y.ring.zero
   at_is xs i = ap (λ ys. get_or ys i Y.ring.zero) (map-id xs)
+
+  -- and of a list of zeros, whatever the place
+  pub zero_at : (n i : ℕ) → at Y (λ x. x) (zeros Y n) i ≡ Y.ring.zero
+  zero_at n i =
+      at_is (zeros Y n) i
+      ∙ ⊎_elim (λ l. get_or-replicate n i Y.ring.zero Y.ring.zero l)
+      (λ l. get_or_past (zeros Y n) i Y.ring.zero (omega (arith, length-replicate n Y.ring.zero))) (cases_lt i n)
 
   -- what a program's buffers hold, as lists of symbols
   module _ {S : Type 0} (value : S → Y.Symbol) where

@@ -1,11 +1,10 @@
 -- A ledger holds what its history says. Assumes nothing.
-use Rattle.std.proofs.Common.{◌≡◌, ◌≢◌, ℕ, ◌+◌, ◌-◌, ◌*◌, ◌^◌, ◌<◌, ◌≤◌, Bool, true, false, not, cond, ◌&&◌, ◌||◌, ◌==◌, List, [], ◌∷◌, ◌++◌, length, get_or, replicate, slice_set, ⊎_elim, Option, Some, None, is_some, unwrap_or, refl, sym, ap, ◌∙◌, subst, arith}
+use Rattle.std.proofs.Common.{◌≡◌, ◌≢◌, ℕ, ◌+◌, ◌-◌, ◌*◌, ◌^◌, ◌<◌, ◌≤◌, Bool, true, false, not, cond, ◌&&◌, ◌||◌, ◌==◌, List, [], ◌∷◌, ◌++◌, length, get_or, slice_set, Option, Some, None, is_some, unwrap_or, refl, sym, ap, ◌∙◌, subst, arith}
 use Rattle.std.specs.Option.{option_or}
-use Rattle.std.proofs.lemmas.Bool.{and_from, and_parts, both_ways, cases_lt, eq-eqb, eqb-true}
-use Rattle.std.proofs.lemmas.List.{get_or_past, get_or-replicate, get_or-set_other, get_or-set_same, length-replicate}
+use Rattle.std.proofs.lemmas.Bool.{and_from, and_parts, both_ways, eq-eqb, eqb-true}
+use Rattle.std.proofs.lemmas.List.{get_or-set_other, get_or-set_same}
 use Rattle.std.proofs.lemmas.Nat.{mul-add-lt, same_from_place}
 use Rattle.field.specs.Symbols.{Symbols}
-use Rattle.code.specs.Contents.{at}
 use Rattle.refusal.specs.declared.Refusal.TheVariants.{NotSetUp, NoBox, NoRow}
 use Rattle.ledger.specs.Calls.{size_of}
 use Rattle.ledger.specs.Histories.{Entry, if_accepted, is_lost, new_out, newest, newest_write, new_size, since_set_up, size_in_force, new_symbol}
@@ -13,7 +12,7 @@ use Rattle.ledger.specs.Laws.{IsLedger}
 use Rattle.ledger.specs.Ledgers.{LedgerCall, Ledger, accept, contents, decide, step}
 use Rattle.ledger.specs.declared.calls.Call.TheVariants.{SetUp, Put, Amend, Read, Column, Message, Lose, Renew, Rebuild}
 use Rattle.ledger.proofs.Accepted.{whole}
-use Rattle.ledger.proofs.Lists.{at_is}
+use Rattle.ledger.proofs.Lists.{at_is, zero_at}
 use Rattle.ledger.proofs.Newest.{after_last_here, after_last_more, newest_more}
 use Rattle.ledger.proofs.Steps.{Clear, by_verdict}
 
@@ -87,12 +86,6 @@ module _ (Y : Symbols) where
   renews true was o k = refl
   renews false was o k = k
 
-  zero_at : (n i : ℕ) → at Y (λ x. x) (replicate n Y.ring.zero) i ≡ Y.ring.zero
-  zero_at n i =
-      at_is Y (replicate n Y.ring.zero) i
-      ∙ ⊎_elim (λ l. get_or-replicate n i Y.ring.zero Y.ring.zero l)
-      (λ l. get_or_past (replicate n Y.ring.zero) i Y.ring.zero (omega (arith, length-replicate n Y.ring.zero))) (cases_lt i n)
-
   -- one symbol of a file is amended
   module _ (m d c : ℕ) (x : Y.Symbol) (file : List Y.Symbol) (whole : length file ≡ 3 * m * 2 ^ m) (some : 1 ≤ d) (data_box : d ≤ 3 * m) (inside : c < 2 ^ m) where
     abbrev place : ℕ
@@ -131,7 +124,7 @@ module _ (Y : Symbols) where
     accepts (SetUp k) clear = record {
       size = sym (size_more h (entry (SetUp k)));
       out = λ b. sym (none_lost h (entry (SetUp k)) refl b);
-      newest = λ b a first last row. zero_at (3 * k * 2 ^ k) ((b - 1) * 2 ^ k + a) ∙ sym (none_written h (entry (SetUp k)) refl k b a);
+      newest = λ b a first last row. zero_at Y (3 * k * 2 ^ k) ((b - 1) * 2 ^ k + a) ∙ sym (none_written h (entry (SetUp k)) refl k b a);
     }
     accepts (Put file) clear = turn l _ h (entry (Put file)) agrees refl refl (λ b o k. k) (λ b a o first last row k. refl)
     accepts (Amend d c x work) clear = turn l _ h (entry (Amend d c x work)) agrees refl refl (λ b o k. k) (λ b a o first last row k. amends (size_of l.state) d c x l.file (whole Y l lawful (clear NotSetUp)) (named d c x work clear).0 (named d c x work clear).1 (rowed d c x work clear) b a first row _ refl o k)

@@ -9,7 +9,7 @@ use Rattle.refusal.specs.declared.Refusal.TheVariants.{NotSetUp, Length, ManyOut
 use Rattle.ledger.specs.Calls.{out_count, size_of}
 use Rattle.ledger.specs.Histories.{Entry, history, newest_write, told_file}
 use Rattle.ledger.specs.Laws.{IsLedger, IsRead, Leaves, LedgerStands, Remembers}
-use Rattle.ledger.specs.Ledgers.{LedgerCall, Ledger, Outcome, contents, final, fresh, replies, step}
+use Rattle.ledger.specs.Ledgers.{LedgerCall, Ledger, Outcome, contents, final, fresh, step}
 use Rattle.ledger.specs.declared.calls.Answer.{Answer}
 use Rattle.ledger.specs.declared.calls.Call.TheVariants.{Read}
 use Rattle.ledger.proofs.Alike.{leaves_alike}
@@ -18,15 +18,6 @@ use Rattle.ledger.proofs.Stands.{boxes_stay, decided, rows_stay, still_ledger}
 use Rattle.ledger.proofs.Steps.{Clear, accepted, clear, passed}
 
 module _ (Y : Symbols) where
-  -- one call more
-  pub final_more : (l : Ledger Y) (calls : List (LedgerCall Y)) (call : LedgerCall Y) → final Y l (calls ++ call ∷ []) ≡ (step Y (final Y l calls) call).next
-  final_more l [] call = refl
-  final_more l (first ∷ calls) call = final_more (step Y l first).next calls call
-
-  pub replies_more : (l : Ledger Y) (calls : List (LedgerCall Y)) (call : LedgerCall Y) → replies Y l (calls ++ call ∷ []) ≡ replies Y l calls ++ (step Y (final Y l calls) call).reply ∷ []
-  replies_more l [] call = refl
-  replies_more l (first ∷ calls) call = ap (λ rs. (step Y l first).reply ∷ rs) (replies_more (step Y l first).next calls call)
-
   pub begins : (n k : ℕ) → IsLedger Y (fresh Y n k)
   begins n k = record { set_up = λ m e. absurd (none-some m e); numbered = λ b e. absurd (false≢true e); as_made = λ e. refl }
 

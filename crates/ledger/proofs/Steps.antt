@@ -42,7 +42,7 @@ module _ (Y : Symbols) (l : Ledger Y) where
     verdict : (o : Option Refusal) → earliest (reasons Y l.state call) ≡ o → earliest (judged (tests Y l.state Y.Symbol call)) ≡ o
     verdict o e = ap earliest (sym (are_tests Y l.state Y.Symbol call)) ∙ e
 
-    pub least : (why : Refusal) → earliest (reasons Y l.state call) ≡ Some why → Least Y l call why
+    least : (why : Refusal) → earliest (reasons Y l.state call) ≡ Some why → Least Y l call why
     least why e =
         let v = verdict (Some why) e in
         record {
@@ -50,7 +50,7 @@ module _ (Y : Symbols) (l : Ledger Y) where
           least = λ other f. earliest_least _ 1 (rises Y l.state Y.Symbol call) why v other (among Y l.state Y.Symbol call other f);
         }
 
-    pub verdict_of : (why : Refusal) → Least Y l call why → earliest (reasons Y l.state call) ≡ Some why
+    verdict_of : (why : Refusal) → Least Y l call why → earliest (reasons Y l.state call) ≡ Some why
     verdict_of why h =
         ap earliest (are_tests Y l.state Y.Symbol call)
         ∙ least_earliest _ 1 (rises Y l.state Y.Symbol call) why (among Y l.state Y.Symbol call why h.fits) (λ other a. h.least other (fits Y l.state Y.Symbol call other a))

@@ -10,9 +10,6 @@ pub record Says (t : Bool) (P : Type 0) : Type 0 where
   pub if_true : t ≡ true → P
   pub if_holds : P → t ≡ true
 
-pub itself : (t : Bool) → Says t (t ≡ true)
-itself t = record { if_true = λ h. h; if_holds = λ h. h }
-
 pub negated : (t : Bool) → Says (not t) (t ≡ false)
 negated true = record { if_true = λ h. sym h; if_holds = λ h. sym h }
 negated false = record { if_true = λ h. refl; if_holds = λ h. refl }

@@ -1,5 +1,5 @@
 -- How many boxes stand, where those that are out are known. Assumes nothing.
-use Rattle.std.proofs.Common.{◌≡◌, ℕ, zero, suc, ◌+◌, ◌<◌, ◌≤◌, ◌≢◌, Bool, true, false, List, Some, None, inl, inr, sym, refl, ap, ◌∙◌, arith, add-one, le-ltb, lt-ltb}
+use Rattle.std.proofs.Common.{◌≡◌, ℕ, zero, suc, ◌+◌, ◌<◌, ◌≤◌, ◌≢◌, Bool, true, false, if◌then◌else◌, List, Some, None, inl, inr, sym, refl, ap, ap₂, ◌∙◌, arith, add-one, le-ltb, lt-ltb}
 use Rattle.std.proofs.lemmas.Bool.{cases_lt, cases_order, cases_eq, cond-true, cond-false, true≢false}
 use Rattle.code.specs.Standing.{standing}
 use Rattle.code.proofs.Sums.{if_same, if_other}
@@ -7,6 +7,11 @@ use Rattle.refusal.specs.declared.Refusal.TheVariants.{ManyOut}
 use Rattle.missing.specs.Missing.{AllStand, LowestOut, Found, aside, many_out, stands}
 use Rattle.missing.specs.declared.Missing.{Missing}
 use Rattle.missing.specs.declared.Missing.TheVariants.{Nothing, One, Two}
+
+-- where the same boxes stand they are as many
+pub as_many : (p q : ℕ → Bool) (n : ℕ) → ((b : ℕ) → b < n → p b ≡ q b) → standing p n ≡ standing q n
+as_many p q zero like = refl
+as_many p q (suc n) like = ap₂ (λ (t : Bool) (k : ℕ). if t then suc k else k) (like n (omega arith)) (as_many p q n (λ b l. like b (omega arith)))
 
 module _ (s : ℕ → Bool) where
   one_stands : (b : ℕ) → s b ≡ true → standing s (suc b) ≡ suc (standing s b)

@@ -1,8 +1,8 @@
 -- What is listed as missing is what was found to be out. Assumes nothing.
-use Rattle.std.proofs.Common.{◌≡◌, ℕ, suc, ◌+◌, ◌<◌, ◌≤◌, Bool, true, false, ◌⊎◌, inl, inr, sym, refl, ap, ◌∙◌, arith}
+use Rattle.std.proofs.Common.{◌≡◌, ℕ, ◌+◌, ◌<◌, ◌≤◌, Bool, true, false, inl, inr, sym, refl, ap, ◌∙◌, arith}
 use Rattle.std.proofs.lemmas.Bool.{cases_order}
 use Rattle.std.proofs.lemmas.Bool.Decides.{nat_tests}
-use Rattle.missing.specs.Missing.{Found, are_boxes, present, source}
+use Rattle.missing.specs.Missing.{Found, are_boxes, present}
 use Rattle.missing.specs.declared.Missing.{Missing}
 use Rattle.missing.specs.declared.Missing.TheVariants.{Nothing, One, Two}
 
@@ -41,9 +41,3 @@ found_present n (Two x y) e =
       record { from = omega arith; inside = yn; out = grind (arith, nat_tests); before = λ b i l. grind (arith, nat_tests) },
       λ b i l. grind (arith, nat_tests),
     )
-
--- what tells a column: the box itself, or one of the two parity boxes
-pub source_cases : (n : ℕ) (missing : Missing) (b : ℕ) → (source n missing b ≡ b) ⊎ ((source n missing b ≡ n) ⊎ (source n missing b ≡ suc n))
-source_cases n Nothing b = inl refl
-source_cases n (One x) b = grind (arith, nat_tests)
-source_cases n (Two x y) b = grind (arith, nat_tests)

@@ -24,6 +24,10 @@ impl Residue for Five {
 
     ghost SIZE = { 5 };
 
+    const MARK_COUNT: u32 = 4;
+
+    ghost MARK_COUNT = { 4 };
+
     ghost above_one = { above_one };
 
     ghost marks = { five_marks };
@@ -37,6 +41,10 @@ impl Residue for Five {
     ghost small = { lit< tt };
 
     ghost marks_agree = { refl };
+
+    ghost all_marked = { refl };
+
+    fn few_bytes() {}
 
     fn from_number(n: u32) -> Five {
         SYMBOLS[n as usize]

@@ -18,6 +18,10 @@ impl Residue for Words {
 
     ghost SIZE = { 65537 };
 
+    const MARK_COUNT: u32 = 65536;
+
+    ghost MARK_COUNT = { 65536 };
+
     ghost above_one = { above_one };
 
     ghost marks = { word_marks };
@@ -31,6 +35,10 @@ impl Residue for Words {
     ghost small = { lit< tt };
 
     ghost marks_agree = { refl };
+
+    ghost all_marked = { refl };
+
+    fn few_bytes() {}
 
     fn from_number(n: u32) -> Words {
         u16::try_from(n).map_or(Words::Top, Words::Low)

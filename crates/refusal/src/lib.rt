@@ -98,15 +98,13 @@ pub fn refuse_if(fits: bool, why: Refusal) -> Result<(), Refusal>
 pub fn sized(m: usize) -> Result<(), Refusal>
     ensures { refusal result ≡ wrong_size m }
 {
-    if m < 1 || 6 < m {
-        return Err(Refusal::Size);
-    }
-    Ok(())
+    refuse_if(m < 1 || 6 < m, Refusal::Size)
 }
 
-// Public questions that stand as they were promised; the check beside each asks it.
+// The same questions as yes or no; the check beside each asks it.
 
-// Does the field have fewer than 2m marks?
+// Does the field have fewer than 2m marks? Half their count is compared with m,
+// since 2m need not fit.
 pub fn few_marks<F: Sums>(m: usize) -> bool
     ensures { result ≡ nat_lt F.symbols.marks (2 * m) }
 {
@@ -117,10 +115,7 @@ pub fn few_marks<F: Sums>(m: usize) -> bool
 pub fn marked<F: Sums>(m: usize) -> Result<(), Refusal>
     ensures { refusal result ≡ too_few_marks F.symbols m }
 {
-    if few_marks::<F>(m) {
-        return Err(Refusal::Marks);
-    }
-    Ok(())
+    refuse_if(few_marks::<F>(m), Refusal::Marks)
 }
 
 // Lengths of buffers, each beside the length that it should be: is one wrong?
@@ -134,10 +129,7 @@ pub fn wrong_lengths(lengths: &[(usize, usize)]) -> bool
 pub fn fitting(lengths: &[(usize, usize)]) -> Result<(), Refusal>
     ensures { refusal result ≡ wrong_length lengths.now }
 {
-    if wrong_lengths(lengths) {
-        return Err(Refusal::Length);
-    }
-    Ok(())
+    refuse_if(wrong_lengths(lengths), Refusal::Length)
 }
 
 // Is b none of the boxes 1 to n?
@@ -151,38 +143,26 @@ pub fn outside(n: usize, b: usize) -> bool
 pub fn numbered(n: usize, b: usize) -> Result<(), Refusal>
     ensures { refusal result ≡ no_box n b }
 {
-    if outside(n, b) {
-        return Err(Refusal::NoBox);
-    }
-    Ok(())
+    refuse_if(outside(n, b), Refusal::NoBox)
 }
 
 // Refuses a box that is none of the n data boxes.
 pub fn holding_data(n: usize, b: usize) -> Result<(), Refusal>
     ensures { refusal result ≡ parity_box n b }
 {
-    if n < b {
-        return Err(Refusal::NotRenewable);
-    }
-    Ok(())
+    refuse_if(n < b, Refusal::NotRenewable)
 }
 
 // Refuses a helper that is the lost box, or that has been heard already.
 pub fn helping(lost: usize, helper: usize, heard: bool) -> Result<(), Refusal>
     ensures { refusal result ≡ no_helper lost helper heard }
 {
-    if helper == lost || heard {
-        return Err(Refusal::Helper);
-    }
-    Ok(())
+    refuse_if(helper == lost || heard, Refusal::Helper)
 }
 
 // Refuses as long as a helper is missing.
 pub fn all_heard(missing: bool) -> Result<(), Refusal>
     ensures { refusal result ≡ unheard missing }
 {
-    if missing {
-        return Err(Refusal::Unheard);
-    }
-    Ok(())
+    refuse_if(missing, Refusal::Unheard)
 }

@@ -221,16 +221,24 @@ fn renew(rt: &(impl Print + AllocGlobal), cabinet: &Cabinet) -> anyhow::Result<(
     Ok(())
 }
 
+// The columns of the boxes that are out, as a cabinet has them.
+fn print_out(rt: &impl Print, cabinet: &Cabinet) -> anyhow::Result<()> {
+    for number in OUT {
+        rt.println(cabinet.line(number)?)?;
+    }
+    Ok(())
+}
+
 // Two boxes are out, and decoded from the columns of the others.
 fn decode_two(rt: &impl Print, cabinet: &Cabinet) -> anyhow::Result<()> {
     let mut left = *cabinet;
     left.lose(&OUT);
-    let decoded = left.decoded(&OUT)?;
     let [a, b] = OUT;
-    println!(rt; "Boxes {a} and {b} are out. Decoded from the columns of the others:")?;
-    for number in OUT {
-        rt.println(decoded.line(number)?)?;
-    }
+    println!(rt; "Boxes {a} and {b} are out. This is left of their columns:")?;
+    print_out(rt, &left)?;
+    let decoded = left.decoded(&OUT)?;
+    rt.println("Decoded from the columns of the others:")?;
+    print_out(rt, &decoded)?;
     rt.println(if decoded.file == cabinet.file {
         "They are the lost columns."
     } else {

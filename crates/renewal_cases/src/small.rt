@@ -5,7 +5,6 @@ use prime::five::Five;
 use prime::five::Five::{Four, One, Three, Two, Zero};
 use renewing::{renew, renew_out, send_half};
 use shelf::Shelf;
-use shelf_rows::write_rows;
 use std::test::Fail;
 use stripe::Stripe;
 
@@ -16,7 +15,7 @@ const BOXES: [Five; 10] = [One, Two, Three, Four, Zero, One, Four, Two, Two, One
 fn put_in(shelf: &mut Flat<'_, Five>, from: usize) {
     for (b, column) in BOXES.chunks_exact(2).enumerate() {
         shelf.insert(b + 1, Three);
-        write_rows(shelf, b + 1, from, column);
+        shelf.write_rows(b + 1, from, column);
     }
 }
 
@@ -29,7 +28,7 @@ fn renewed_in_place(rt: HostRuntime) -> Result<(), Fail> {
         let stripe = Stripe::new(1, 0)?;
         let mut shelf = Flat::new(&mut buffer, 5, 2);
         put_in(&mut shelf, 0);
-        write_rows(&mut shelf, 1, 0, &[Four, Four]);
+        shelf.write_rows(1, 0, &[Four, Four]);
         for (helper, number) in [(2, Three), (3, Zero), (4, Four), (5, Two)] {
             let mut half = [One; 1];
             send_half(&mut shelf, &stripe, helper, 1, &mut half)?;

@@ -1,3 +1,2 @@
-pub mod Exchanging
 pub mod Numbers
 pub mod Restored

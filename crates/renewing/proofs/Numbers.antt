@@ -1,25 +1,21 @@
 -- Lemmas on the halves that boxes of a shelf send. Assumes nothing.
-use Rattle.std.proofs.Common.{◌≡◌, ◌≢◌, ℕ, zero, suc, ◌+◌, ◌-◌, ◌*◌, ◌^◌, ◌<◌, ◌≤◌, Bool, true, List, map, length, slice_index_or, Option, Some, is_some, if◌then◌else◌, nat_lt, sym, ap, ap₂, ◌∙◌, inl, inr, arith, tests, rules, mul-le-mul_right}
+use Rattle.std.proofs.Common.{◌≡◌, ◌≢◌, ℕ, zero, suc, ◌+◌, ◌-◌, ◌*◌, ◌^◌, ◌<◌, ◌≤◌, Bool, true, List, map, length, slice_index_or, if◌then◌else◌, nat_lt, sym, ap, ap₂, ◌∙◌, inl, inr, arith, tests, mul-le-mul_right}
 use Rattle.std.proofs.lemmas.Bool.{cases_order}
-use Rattle.std.proofs.lemmas.List.{take-map, drop-map, length-map, map-append, places}
+use Rattle.std.proofs.lemmas.List.{length-map}
 use Rattle.std.proofs.lemmas.Nat.{mul-add-lt}
 use borrow.Rule.Slice.PartMut.{put_mid}
 use Rattle.field.specs.Symbols.{Symbols}
-use Rattle.boxes.specs.Pairs.{RowsOfPair}
-use Rattle.code.specs.Blocks.{half}
-use Rattle.code.specs.Codes.{full, half_for, helper, kind, shift}
+use Rattle.code.specs.Codes.{full, half_for, helper}
 use Rattle.code.specs.Contents.{Holds, at, parts}
-use Rattle.code.specs.Rows.{lower}
-use Rattle.code.specs.declared.Kind.{Kind}
-use Rattle.shelf.specs.Meaning.{IsShelf, Meaning, has_row, is_standing, symbol_at}
-use Rattle.shelf.proofs.Meanings.{symbol_at_there}
-use Rattle.shelf_rows.specs.Rows.{has_rows, rows_at}
+use Rattle.columns.proofs.Mids.{map_mid, mid_before, mid_inside}
+use Rattle.shelf.specs.Meaning.{Meaning, is_standing}
+use Rattle.shelf.specs.Rows.{has_rows, rows_at}
 use Rattle.stripe.specs.Stripes.{has_stripe, held, stands}
-use Rattle.stripe.proofs.Held.{at_row, held_number, stripe_rows}
+use Rattle.stripe.proofs.Held.{held_number, stripe_rows}
 use Rattle.renewing.specs.Renewals.{HalvesOf, others_stand}
 
 -- each of the other boxes stands
-pub other_stands : (up : ℕ → Bool) (x n b : ℕ) → others_stand up x n ≡ true → b < n → b ≢ x → up b ≡ true
+other_stands : (up : ℕ → Bool) (x n b : ℕ) → others_stand up x n ≡ true → b < n → b ≢ x → up b ≡ true
 other_stands up x zero b e h n = absurd (omega arith)
 other_stands up x (suc k) b e h n =
     elim (cases_order b k) [
@@ -29,10 +25,6 @@ other_stands up x (suc k) b e h n =
     ]
 
 module _ {T : Type 0} (s : Meaning T) where
-  -- what is fetched from a row that is there
-  pub is_there : (b a : ℕ) (o : Option T) → IsShelf s → has_row s b a ≡ true → o ≡ symbol_at s b a → is_some o ≡ true
-  is_there b a o k h e = ap is_some (e ∙ (symbol_at_there s k b a h).1)
-
   -- so has each helper the rows of the stripe
   pub helper_rows : (m from lost h b : ℕ) → has_stripe m from s ≡ true → others_stand (stands s) (lost - 1) (3 * m + 2) ≡ true → h < 3 * m + 1
       → b ≡ suc (if nat_lt h (lost - 1) then h else suc h) → has_rows s b from (2 ^ m) ≡ true
@@ -44,38 +36,18 @@ module _ {T : Type 0} (s : Meaning T) where
       stripe_rows m from s b e (ap (is_standing s) r ∙ other_stands (stands s) x (3 * m + 2) place o below other)
 
 module _ (Y : Symbols) {T : Type 0} (v : T → Y.Symbol) where
-  -- a number of a half, from the two symbols of its pair
-  pub number_of : (m x from b j low high : ℕ) (u : Kind) (s t : Meaning T) (y z r : T) → RowsOfPair m (shift (full Y m) x) j low high → u ≡ kind (full Y m) x → t ≡ s
-      → symbol_at s b (from + low) ≡ Some y → symbol_at t b (from + high) ≡ Some z → v r ≡ half Y.ring u (v y) (v z)
-      → v r ≡ half_for (full Y m) x (at Y v (rows_at s b from (2 ^ m))) j
-  number_of m x from b j low high u s t y z r rows eu et ey ez er =
-      let C = at Y v (rows_at s b from (2 ^ m)) in
-      let first : v y ≡ C (lower (shift (full Y m) x) j) = sym (at_row Y v s b from (2 ^ m) low y (omega (arith, rows.rising, rows.bound)) ey) ∙ ap C rows.is_low in
-      let second : v z ≡ C (lower (shift (full Y m) x) j + 2 ^ shift (full Y m) x) =
-      sym (at_row Y v s b from (2 ^ m) high z rows.bound (ap (λ w. symbol_at w b (from + high)) (sym et) ∙ ez)) ∙ ap C rows.is_high in
-      er ∙ (λ i. half Y.ring (eu i) (first i) (second i))
-
   -- a half, by the box's number
   pub half_sent : (m from x b : ℕ) (s t : Meaning T) (xs : List T) → 1 ≤ b → t ≡ s → Holds Y v (2 ^ (m - 1)) xs (half_for (full Y m) x (at Y v (rows_at t b from (2 ^ m))))
       → Holds Y v (2 ^ (m - 1)) xs (half_for (full Y m) x (held Y v m from s (b - 1)))
   half_sent m from x b s t xs first same h a l =
       h a l ∙ ap (λ C. half_for (full Y m) x C a) (ap (λ w. at Y v (rows_at w b from (2 ^ m))) same ∙ sym (held_number Y v m from s b first))
 
-  map_mid : (a k : ℕ) (xs ys : List T) → map v (put_mid a k xs ys) ≡ put_mid a k (map v xs) (map v ys)
-  map_mid a k xs ys = search (map-append, take-map, drop-map)
-
-  mid_inside : {X : Type 0} (a k : ℕ) (xs ys : List X) (i : ℕ) (d : X) → a ≤ length xs → i < length ys → slice_index_or (put_mid a k xs ys) (a + i) d ≡ slice_index_or ys i d
-  mid_inside a k xs ys i d h l = search (rules, places)
-
-  mid_before : {X : Type 0} (a k : ℕ) (xs ys : List X) (i : ℕ) (d : X) → a ≤ length xs → i < a → slice_index_or (put_mid a k xs ys) i d ≡ slice_index_or xs i d
-  mid_before a k xs ys i d h l = search (rules, places)
-
   -- one half more is taken, into part h of n numbers
   halves_more : (n h s k : ℕ) (xs ys : List T) (G : ℕ → ℕ → Y.Symbol) → s ≡ h * n → k ≡ n → h * n + n ≤ length xs → length ys ≡ n
       → ((i : ℕ) → i < h → (j : ℕ) → j < n → parts Y v n xs i j ≡ G i j) → ((j : ℕ) → j < n → at Y v ys j ≡ G h j)
       → (i : ℕ) → i < h + 1 → (j : ℕ) → j < n → parts Y v n (put_mid s k xs ys) i j ≡ G i j
   halves_more n h s k xs ys G es ek fits size before here i l j below =
-      ap (λ zs. slice_index_or zs (i * n + j) Y.ring.zero) (map_mid s k xs ys)
+      ap (λ zs. slice_index_or zs (i * n + j) Y.ring.zero) (map_mid v s k xs ys)
       ∙ elim (cases_order i h) [
         | inl e ↦
             let q : i * n + j ≡ s + j = omega (arith, ap (λ z. z * n) e) in

@@ -1,34 +1,21 @@
 -- Lemmas on a box that is renewed, and on one that is put in before. Assumes nothing.
-use Rattle.std.proofs.Common.{◌≡◌, ◌≢◌, ℕ, zero, suc, ◌+◌, ◌-◌, ◌*◌, ◌^◌, ◌<◌, ◌≤◌, ◌⊎◌, true, false, ◌&&◌, ◌||◌, ◌==◌, if◌then◌else◌, nat_le, nat_lt, List, ◌++◌, map, length, replicate, slice_get, slice_index_or, Some, is_some, sym, refl, ap, ap₂, ◌∙◌, subst, inl, inr, mul-le-mul_right, pow-suc, arith, tests}
+use Rattle.std.proofs.Common.{◌≡◌, ◌≢◌, ℕ, zero, suc, ◌+◌, ◌-◌, ◌*◌, ◌^◌, ◌<◌, ◌≤◌, ◌⊎◌, true, false, ◌&&◌, ◌||◌, ◌==◌, if◌then◌else◌, nat_le, nat_lt, List, ◌++◌, map, length, replicate, slice_get, slice_index_or, Some, is_some, sym, refl, ap, ap₂, ◌∙◌, subst, inl, inr, arith, tests}
 use Rattle.std.specs.Option.{IsSomeAnd}
 use Rattle.std.proofs.lemmas.Bool.{cases_eq}
 use Rattle.std.proofs.lemmas.List.{length-map, map-append, get_or_append_left}
 use Rattle.std.proofs.lemmas.Nat.{mul-add-lt}
 use Rattle.field.specs.Symbols.{Symbols}
-use Rattle.code.specs.Blocks.{half}
-use Rattle.code.specs.Codes.{Alike, File, Given, HasHalves, full, half_for, helper, kind, shift}
+use Rattle.code.specs.Codes.{Alike, File, Given, HasHalves, full, half_for, helper}
 use Rattle.code.specs.Codes.{column as column_of}
-use Rattle.code.specs.Rows.{lower}
-use Rattle.code.proofs.Pairing.{lower_below, upper_below}
+use Rattle.code.proofs.Stands.{same_halves}
 use Rattle.code.specs.Contents.{at, parts}
 use Rattle.shelf.specs.Meaning.{Meaning, box_count, column, is_standing, symbol_at, symbol_of, unless_standing, with_standing}
 use Rattle.shelf.proofs.Meanings.{out_column}
 use Rattle.shelf.proofs.Places.{in_box-with_other, in_box-with_same, length-with_box}
-use Rattle.shelf_rows.specs.Rows.{rows_at}
+use Rattle.shelf.specs.Rows.{rows_at}
 use Rattle.stripe.specs.Stripes.{OnlyStripe, has_stripe, held, stands}
 use Rattle.stripe.proofs.Held.{held_number, held_same}
 use Rattle.renewing.specs.Renewals.{HalvesOf, OthersHold, NewBox, Renewed, others_stand}
-
--- the halves leave room for a column in a buffer for a file
-pub room : (m : ℕ) → 1 ≤ m → (3 * m + 1) * 2 ^ (m - 1) + 2 ^ m ≤ 3 * m * 2 ^ m
-room zero h = absurd (omega arith)
-room (suc k) h =
-    let twice : 2 ^ suc k ≡ 2 * 2 ^ k = omega (arith, pow-suc 2 k) in
-    let p = 2 ^ k in
-    let less : suc k - 1 ≡ k = omega arith in
-    let e : 2 ^ (suc k - 1) ≡ p = ap (λ n. 2 ^ n) less in
-    let one : 1 * p ≤ suc k * p = mul-le-mul_right p h in
-    rw e (rw twice (omega (arith, one)))
 
 -- the lost box is none of the helpers
 not_lost : (lost h : ℕ) → 1 ≤ lost → suc (if nat_lt h (lost - 1) then h else suc h) ≢ lost
@@ -73,12 +60,6 @@ module _ (Y : Symbols) {T : Type 0} (v : T → Y.Symbol) where
       let inside : h * n + j < length (map v xs) = simp length-map (omega (arith, e, mul-add-lt h n j k l w)) in
       ap (λ zs. slice_index_or zs (h * n + j) Y.ring.zero) (map-append v xs ys) ∙ get_or_append_left (map v xs) (map v ys) Y.ring.zero (h * n + j) inside
 
-  -- columns that are the same have the same halves
-  half_same : (m x : ℕ) (C E : ℕ → Y.Symbol) → 1 ≤ m → Alike (full Y m) C E → (j : ℕ) → j < 2 ^ (m - 1) → half_for (full Y m) x C j ≡ half_for (full Y m) x E j
-  half_same m x C E some same j l =
-      let k = shift (full Y m) x in
-      ap₂ (half Y.ring (kind (full Y m) x)) (same (lower k j) (lower_below m k j (omega arith) l)) (same (lower k j + 2 ^ k) (upper_below m k j (omega arith) l))
-
   -- where the others hold a file's columns, the column given is that of the file
   of_file : (m from x : ℕ) (s : Meaning T) (g : ℕ → ℕ → Y.Symbol) (C : ℕ → Y.Symbol) → 1 ≤ m → x < 3 * m → HalvesOf Y v m from x s g → Given (full Y m) x g C
       → (f : File (full Y m)) → OthersHold Y v m from x s f → Alike (full Y m) C (f x)
@@ -90,7 +71,7 @@ module _ (Y : Symbols) {T : Type 0} (v : T → Y.Symbol) where
           let b = helper (full Y m) x h in
           let apart : b ≢ x = grind (arith, tests) in
           let below : b < 3 * m + 2 = grind (arith, tests) in
-          half_same m x (column_of (full Y m) f b) (held Y v m from s b) some (λ r k. sym (others b below apart r k)) j q ∙ sym (taken h (omega arith) j q)
+          same_halves (full Y m) some x (column_of (full Y m) f b) (held Y v m from s b) (λ r k. sym (others b below apart r k)) j q ∙ sym (taken h (omega arith) j q)
 
   module _ (m from lost : ℕ) (first : 1 ≤ lost) where
     -- the halves xs were taken, and the lost box was given the column that they give

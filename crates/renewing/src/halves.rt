@@ -1,56 +1,23 @@
 // Halves of the boxes of a stripe, for a lost data box.
-ghost use Rattle.std.specs.Prelude.{◌≡◌, ℕ, suc, ◌+◌, ◌-◌, ◌*◌, ◌^◌, ◌<◌, ◌≤◌, true, false, [], ◌∷◌, if◌then◌else◌, nat_lt, length, Some, MatchResult};
+ghost use Rattle.std.specs.Prelude.{◌≡◌, ℕ, suc, ◌+◌, ◌-◌, ◌*◌, ◌^◌, ◌<◌, ◌≤◌, true, false, [], ◌∷◌, if◌then◌else◌, nat_lt, length, MatchResult};
 ghost use Rattle.code.specs.Codes.{full, half_for, helper as helper_of};
 ghost use Rattle.code.specs.Contents.{Holds, at, parts};
 ghost use Rattle.refusal.specs.Refusals.{earliest, no_box, no_helper, parity_box, refusal, wrong_lengths};
 ghost use Rattle.renewing.specs.Renewals.{HalvesOf, others_stand};
-ghost use Rattle.shelf.specs.Meaning.{has_row, symbol_at};
-ghost use Rattle.shelf_rows.specs.Rows.{has_rows, rows_at};
+ghost use Rattle.shelf.specs.Rows.{has_rows, rows_at};
 ghost use Rattle.stripe.specs.Reasons.{box_out};
 ghost use Rattle.stripe.specs.Stripes.{has_stripe, held, no_stripe, stands};
 
-use boxes::kind_at;
+use boxes::MOST_ROWS;
+use columns::half;
 use field::Sums;
 use refusal::{Refusal, fitting, helping, holding_data, numbered, refuse_if};
 use shelf::Shelf;
 use stripe::{Stripe, on_shelf};
 
-// The symbol in a row that a box has.
-pub(crate) fn fetch_row<S: Shelf>(shelf: &mut S, b: usize, a: usize) -> S::Symbol
-    requires { has_row (S.meaning shelf.old) b a ≡ true }
-    ensures symbol { symbol_at (S.meaning shelf.old) b a ≡ Some result }
-    ensures stays { S.meaning shelf.new ≡ S.meaning shelf.old }
-    ensures lender { S.buffers shelf.new ≡ S.buffers shelf.old }
-{
-    shelf.fetch(b, a).unwrap()
-}
-
-// Number j of the half of a standing box for a lost data box.
-fn half_number<F: Sums, S: Shelf<Symbol = F>>(
-    shelf: &mut S,
-    stripe: &Stripe<F>,
-    helper: usize,
-    lost: usize,
-    j: usize,
-) -> F
-    requires rows { has_rows (S.meaning shelf.old) helper stripe.now.from (2 ^ stripe.now.cabinet.size.m) ≡ true }
-    requires first { 1 ≤ lost }
-    requires pair { j < 2 ^ (stripe.now.cabinet.size.m - 1) }
-    ensures number { let m = stripe.now.cabinet.size.m in F.value result ≡ half_for (full F.symbols m) (lost - 1) (at F.symbols F.value (rows_at (S.meaning shelf.old) helper stripe.now.from (2 ^ m))) j }
-    ensures stays { S.meaning shelf.new ≡ S.meaning shelf.old }
-    ensures lender { S.buffers shelf.new ≡ S.buffers shelf.old }
-{
-    let size = &stripe.cabinet.size;
-    let (low, high) = size.digit(lost - 1).pair(j).unwrap();
-    let s = fetch_row(shelf, helper, stripe.from + low);
-    let t = fetch_row(shelf, helper, stripe.from + high);
-    kind_at(size.m, lost - 1).half(s, t)
-}
-
 // Takes the half of a standing box for a lost data box, and tells how many
-// numbers that is. They come straight from the shelf: an array of 2^m symbols
-// cannot be lent as a slice, since nothing bounds the size of a field's symbol.
-#[tactic(auto, using(columns::proofs::Slices::rowwise_more))]
+// numbers that is.
+#[tactic(auto, using(shelf::proofs::Rows::rows_read_there))]
 fn take_half<F: Sums, S: Shelf<Symbol = F>>(
     shelf: &mut S,
     stripe: &Stripe<F>,
@@ -61,14 +28,18 @@ fn take_half<F: Sums, S: Shelf<Symbol = F>>(
     requires rows { has_rows (S.meaning shelf.old) helper stripe.now.from (2 ^ stripe.now.cabinet.size.m) ≡ true }
     requires pairs { length into.old ≡ 2 ^ (stripe.now.cabinet.size.m - 1) }
     requires first { 1 ≤ lost }
+    requires data { lost ≤ 3 * stripe.now.cabinet.size.m }
     ensures count { result ≡ 2 ^ (stripe.now.cabinet.size.m - 1) }
     ensures half { let m = stripe.now.cabinet.size.m in Holds F.symbols F.value (2 ^ (m - 1)) into.new (half_for (full F.symbols m) (lost - 1) (at F.symbols F.value (rows_at (S.meaning shelf.old) helper stripe.now.from (2 ^ m)))) }
     ensures stays { S.meaning shelf.new ≡ S.meaning shelf.old }
     ensures lender { S.buffers shelf.new ≡ S.buffers shelf.old }
 {
-    for (j, number) in into.iter_mut().enumerate() {
-        *number = half_number(shelf, stripe, helper, lost, j);
-    }
+    F::takes_few_bytes();
+    let size = &stripe.cabinet.size;
+    let mut symbols = [F::zero(); MOST_ROWS];
+    let column = &mut symbols[..size.rows()];
+    shelf.read_rows(helper, stripe.from, column);
+    half(size.m, lost, column, into).unwrap();
     into.len()
 }
 
@@ -94,6 +65,7 @@ pub(crate) fn take_halves<F: Sums, S: Shelf<Symbol = F>>(
     requires others { others_stand (stands (S.meaning shelf.old)) (lost - 1) (3 * stripe.now.cabinet.size.m + 2) ≡ true }
     requires whole { length halves.old ≡ (3 * stripe.now.cabinet.size.m + 1) * 2 ^ (stripe.now.cabinet.size.m - 1) }
     requires first { 1 ≤ lost }
+    requires data { lost ≤ 3 * stripe.now.cabinet.size.m }
     ensures count { result ≡ (3 * stripe.now.cabinet.size.m + 1) * 2 ^ (stripe.now.cabinet.size.m - 1) }
     ensures taken { let m = stripe.now.cabinet.size.m in HalvesOf F.symbols F.value m stripe.now.from (lost - 1) (S.meaning shelf.old) (parts F.symbols F.value (2 ^ (m - 1)) halves.new) }
     ensures stays { S.meaning shelf.new ≡ S.meaning shelf.old }
@@ -104,8 +76,8 @@ pub(crate) fn take_halves<F: Sums, S: Shelf<Symbol = F>>(
     let mut taken = 0;
     for h in 0..size.boxes() + 1 {
         let start = h * pairs;
-        let half = &mut halves[start..start + pairs];
-        taken += take_half(shelf, stripe, helper_at(lost, h), lost, half);
+        let into = &mut halves[start..start + pairs];
+        taken += take_half(shelf, stripe, helper_at(lost, h), lost, into);
     }
     taken
 }

@@ -1,75 +1,46 @@
 // The restoring step on a shelf.
-ghost use Rattle.std.specs.Prelude.{◌≡◌, ◌≢◌, ℕ, ◌+◌, ◌-◌, ◌*◌, ◌^◌, ◌<◌, ◌≤◌, true, false, [], ◌∷◌, drop, length, IfOk, MatchResult, OnErr, Some};
+ghost use Rattle.std.specs.Prelude.{◌≡◌, ◌≢◌, ℕ, ◌+◌, ◌-◌, ◌*◌, ◌^◌, ◌<◌, ◌≤◌, true, false, [], ◌∷◌, drop, length, IfOk, MatchResult, OnErr};
 ghost use Rattle.boxes.specs.Out.{many_out};
 ghost use Rattle.code.specs.Codes.{Given, full};
 ghost use Rattle.code.specs.Contents.{at, parts};
 ghost use Rattle.refusal.specs.Refusals.{earliest, no_box, refusal, wrong_lengths};
-ghost use Rattle.renewing.specs.Exchanges.{Exchanged};
 ghost use Rattle.renewing.specs.Renewals.{NewBox, Renewed, not_renewable, others_stand};
-ghost use Rattle.shelf.specs.Meaning.{column, has_row, is_standing, symbol_at, with_symbol};
-ghost use Rattle.shelf_rows.specs.Rows.{has_rows, rows_at, with_rows};
+ghost use Rattle.shelf.specs.Meaning.{column, is_standing};
+ghost use Rattle.shelf.specs.Rows.{has_rows, rows_at};
 ghost use Rattle.stripe.specs.Reasons.{box_out, box_stands};
 ghost use Rattle.stripe.specs.Stripes.{OnlyStripe, has_stripe, no_stripe, stands};
 
 use crate::counting::{count_standing, renewable};
-use crate::halves::{fetch_row, take_halves};
+use crate::halves::take_halves;
+use boxes::MOST_ROWS;
 use columns::restore;
 use field::Quotients;
 use refusal::{Refusal, fitting, numbered, refuse_if};
 use shelf::Shelf;
 use stripe::{Stripe, on_shelf};
 
-// Stores a symbol in a row that a box has, and tells what stood there.
-fn exchange_row<S: Shelf>(shelf: &mut S, b: usize, a: usize, x: S::Symbol) -> S::Symbol
-    requires { has_row (S.meaning shelf.old) b a ≡ true }
-    ensures symbol { symbol_at (S.meaning shelf.old) b a ≡ Some result }
-    ensures after { S.meaning shelf.new ≡ with_symbol (S.meaning shelf.old) b a x }
-    ensures lender { S.buffers shelf.new ≡ S.buffers shelf.old }
-{
-    let there = fetch_row(shelf, b, a);
-    shelf.store(b, a, x);
-    there
-}
-
-// Exchanges rows of a box, from row `from` on, with what the buffer holds.
-#[tactic(auto, using(crate::proofs::Exchanging::turn_there))]
-fn exchange<S: Shelf>(shelf: &mut S, b: usize, from: usize, buffer: &mut [S::Symbol])
-    requires { has_rows (S.meaning shelf.old) b from (length buffer.old) ≡ true }
-    ensures exchanged { Exchanged b from (S.meaning shelf.old) (S.meaning shelf.new) buffer.old buffer.new }
-    ensures lender { S.buffers shelf.new ≡ S.buffers shelf.old }
-{
-    for (i, symbol) in buffer.iter_mut().enumerate() {
-        *symbol = exchange_row(shelf, b, from + i, *symbol);
-    }
-}
-
-// Gives the lost box the column that the halves give. The buffer is used for
-// that column, and the lost box, whose rows are to be overwritten, keeps what
-// the buffer holds meanwhile.
+// Gives the lost box the column that the halves give.
 fn give_column<F: Quotients, S: Shelf<Symbol = F>>(
     shelf: &mut S,
     stripe: &Stripe<F>,
     lost: usize,
     halves: &[F],
-    buffer: &mut [F],
 )
     requires rows { has_rows (S.meaning shelf.old) lost stripe.now.from (2 ^ stripe.now.cabinet.size.m) ≡ true }
     requires whole { length halves.now ≡ (3 * stripe.now.cabinet.size.m + 1) * 2 ^ (stripe.now.cabinet.size.m - 1) }
-    requires long { length buffer.old ≡ 2 ^ stripe.now.cabinet.size.m }
     requires first { 1 ≤ lost }
     requires data { lost ≤ 3 * stripe.now.cabinet.size.m }
     ensures given { let m = stripe.now.cabinet.size.m in Given (full F.symbols m) (lost - 1) (parts F.symbols F.value (2 ^ (m - 1)) halves.now) (at F.symbols F.value (rows_at (S.meaning shelf.new) lost stripe.now.from (2 ^ m))) }
     ensures others { (d : ℕ) → d ≢ lost → column (S.meaning shelf.new) d ≡ column (S.meaning shelf.old) d }
     ensures only { OnlyStripe stripe.now.cabinet.size.m stripe.now.from (S.meaning shelf.old) (S.meaning shelf.new) }
-    ensures buffer { buffer.new ≡ buffer.old }
     ensures lender { S.buffers shelf.new ≡ S.buffers shelf.old }
 {
-    exchange(shelf, lost, stripe.from, buffer);
-    let Ok(()) = restore(stripe.cabinet.size.m, lost, halves, buffer) else {
-        // What is lent has the lengths that are wanted.
-        unreachable!()
-    };
-    exchange(shelf, lost, stripe.from, buffer);
+    F::takes_few_bytes();
+    let size = &stripe.cabinet.size;
+    let mut symbols = [F::zero(); MOST_ROWS];
+    let column = &mut symbols[..size.rows()];
+    restore(size.m, lost, halves, column).unwrap();
+    shelf.write_rows(lost, stripe.from, column);
 }
 
 // The restoring step, where all boxes stand and the lost one may hold anything.
@@ -92,9 +63,9 @@ fn renew_standing<F: Quotients, S: Shelf<Symbol = F>>(
     ensures lender { S.buffers shelf.new ≡ S.buffers shelf.old }
 {
     let size = &stripe.cabinet.size;
-    let (halves, rest) = work.split_at_mut((size.boxes() + 1) * size.pairs());
+    let (halves, _) = work.split_at_mut((size.boxes() + 1) * size.pairs());
     let taken = take_halves(shelf, stripe, lost, halves);
-    give_column(shelf, stripe, lost, halves, &mut rest[..size.rows()]);
+    give_column(shelf, stripe, lost, halves);
     taken
 }
 

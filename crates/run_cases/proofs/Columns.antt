@@ -8,7 +8,7 @@ use Rattle.prime.specs.declared.five.Five.{Five}
 use Rattle.prime.specs.declared.five.Five.TheVariants.{Zero, One, Two, Three, Four}
 use Rattle.shelf.specs.Meaning.{IsShelf, Meaning, box_count, column, is_out}
 use Rattle.shelf.proofs.Meanings.{column_length}
-use Rattle.shelf_rows.specs.Rows.{rows_of}
+use Rattle.shelf.specs.Rows.{rows_of}
 use Rattle.stripe.specs.Stripes.{held, stands}
 use Rattle.vault_laws.specs.Laws.{AgreeIn}
 use Rattle.run_cases.specs.Numbers.{shown}

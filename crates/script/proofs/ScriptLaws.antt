@@ -1,4 +1,4 @@
--- A script that is read is printed so, and one that is printed is read again.
+-- A script that is read is printed so, and one that is printed is read again. Assumes nothing.
 use Rattle.std.proofs.Common.{◌≡◌, ℕ, ◌^◌, ◌≤◌, Bool, true, false, ◌||◌, cond, eqb, ltb, List, [], ◌∷◌, ◌++◌, length, map, take, drop, Option, Some, None, refl, sym, ap, subst, ◌∙◌, append_assoc, arith, inl, inr}
 use Rattle.std.specs.Fmt.{decimal}
 use Rattle.std.specs.List.{flat_map}
@@ -124,7 +124,7 @@ lines_in_row s bytes behind_first behind_second p q r =
     let second = line (map letter s.commands ∷ []) in
     p ∙ ap (λ t. first ++ t) (q ∙ ap (λ t. second ++ t) r) ∙ sym (append_assoc first second (flat_map number_line s.commands))
 
-pub script_takes : (bytes : List ℕ) (s : ScriptValue) → script_at bytes ≡ Some s → IsScript s × (printed s ≡ bytes)
+script_takes : (bytes : List ℕ) (s : ScriptValue) → script_at bytes ≡ Some s → IsScript s × (printed s ≡ bytes)
 unfolding script_at
 script_takes bytes s e =
     let g = guard_next (ltb 16384 (length bytes)) _ s e in
@@ -157,7 +157,7 @@ script_takes bytes s e =
         } in
         subst (λ (t : ScriptValue). IsScript t × (printed t ≡ bytes)) same (is, sym whole)
 
-pub script_again : (s : ScriptValue) → IsScript s → script_at (printed s) ≡ Some s
+script_again : (s : ScriptValue) → IsScript s → script_at (printed s) ≡ Some s
 unfolding script_at printed
 script_again s is =
     let first = first_line s.field s.m (length s.commands) in

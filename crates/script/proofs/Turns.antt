@@ -1,4 +1,4 @@
--- Loops that read: what is read so far goes before what the rest gives.
+-- Loops that read: what is read so far goes before what the rest gives. Assumes nothing.
 use Rattle.std.proofs.Common.{◌≡◌, ℕ, suc, ◌+◌, ◌-◌, ◌<◌, ◌≤◌, Bool, true, false, List, [], ◌∷◌, ◌++◌, Option, Some, None, if◌then◌else◌, length, get_or, drop, refl, sym, ap, ◌∙◌, append_assoc, arith}
 use Rattle.std.proofs.lemmas.List.{append-nil, drop_more, drop_all}
 use Rattle.script.specs.Reading.{◌>>=◌, ended_at, numbers_at, command_at, commands_at}

@@ -1,11 +1,11 @@
--- Words that are joined are the first of them, and a space before each of the others.
+-- Words that are joined are the first of them, and a space before each of the others. Assumes nothing.
 use Rattle.std.proofs.Common.{◌≡◌, ℕ, List, [], ◌∷◌, ◌++◌, map, ap, ◌∙◌, sym, append_assoc}
 use Rattle.std.specs.Fmt.{decimal}
 use Rattle.std.specs.List.{join_with_byte}
 use Rattle.std.proofs.lemmas.List.{append-nil}
 use Rattle.script.specs.Transcripts.{spaced}
 
-pub joined : (word : List ℕ) (words : List (List ℕ)) → join_with_byte 32 (word ∷ words) ≡ word ++ spaced words
+joined : (word : List ℕ) (words : List (List ℕ)) → join_with_byte 32 (word ∷ words) ≡ word ++ spaced words
 joined word [] = sym (append-nil word)
 joined word (next ∷ words) = ap (λ t. word ++ 32 ∷ t) (joined next words)
 

@@ -3,71 +3,71 @@ use Rattle.std.proofs.Common.{◌≡◌, ◌≢◌, ℕ, zero, suc, ◌+◌, ◌
 use Rattle.shelf.specs.Meaning.{in_place, with_place, in_box, with_box}
 
 -- a change that leaves what lies there leaves all
-pub with_place-same : {C : Type 0} (cs : List (Option C)) (i : ℕ) (f : Option C → Option C) → f (in_place cs i) ≡ in_place cs i → with_place cs i f ≡ cs
+with_place-same : {C : Type 0} (cs : List (Option C)) (i : ℕ) (f : Option C → Option C) → f (in_place cs i) ≡ in_place cs i → with_place cs i f ≡ cs
 with_place-same [] i f e = refl
 with_place-same (c ∷ cs) zero f e = ap (λ d. d ∷ cs) e
 with_place-same (c ∷ cs) (suc i) f e = ap (λ ds. c ∷ ds) (with_place-same cs i f e)
 
-pub with_place-twice : {C : Type 0} (cs : List (Option C)) (i : ℕ) (f h : Option C → Option C) → with_place (with_place cs i f) i h ≡ with_place cs i (λ c. h (f c))
+with_place-twice : {C : Type 0} (cs : List (Option C)) (i : ℕ) (f h : Option C → Option C) → with_place (with_place cs i f) i h ≡ with_place cs i (λ c. h (f c))
 with_place-twice [] i f h = refl
 with_place-twice (c ∷ cs) zero f h = refl
 with_place-twice (c ∷ cs) (suc i) f h = ap (λ ds. c ∷ ds) (with_place-twice cs i f h)
 
 -- only what a change makes of what lies there counts
-pub with_place-like : {C : Type 0} (cs : List (Option C)) (i : ℕ) (f h : Option C → Option C) → f (in_place cs i) ≡ h (in_place cs i) → with_place cs i f ≡ with_place cs i h
+with_place-like : {C : Type 0} (cs : List (Option C)) (i : ℕ) (f h : Option C → Option C) → f (in_place cs i) ≡ h (in_place cs i) → with_place cs i f ≡ with_place cs i h
 with_place-like [] i f h e = refl
 with_place-like (c ∷ cs) zero f h e = ap (λ d. d ∷ cs) e
 with_place-like (c ∷ cs) (suc i) f h e = ap (λ ds. c ∷ ds) (with_place-like cs i f h e)
 
-pub length-with_place : {C : Type 0} (cs : List (Option C)) (i : ℕ) (f : Option C → Option C) → length (with_place cs i f) ≡ length cs
+length-with_place : {C : Type 0} (cs : List (Option C)) (i : ℕ) (f : Option C → Option C) → length (with_place cs i f) ≡ length cs
 length-with_place [] i f = refl
 length-with_place (c ∷ cs) zero f = refl
 length-with_place (c ∷ cs) (suc i) f = ap suc (length-with_place cs i f)
 
-pub in_place-with_same : {C : Type 0} (cs : List (Option C)) (i : ℕ) (f : Option C → Option C) → i < length cs → in_place (with_place cs i f) i ≡ f (in_place cs i)
+in_place-with_same : {C : Type 0} (cs : List (Option C)) (i : ℕ) (f : Option C → Option C) → i < length cs → in_place (with_place cs i f) i ≡ f (in_place cs i)
 in_place-with_same [] i f h = absurd (omega arith)
 in_place-with_same (c ∷ cs) zero f h = refl
 in_place-with_same (c ∷ cs) (suc i) f h = in_place-with_same cs i f (omega arith)
 
-pub in_place-with_other : {C : Type 0} (cs : List (Option C)) (i j : ℕ) (f : Option C → Option C) → i ≢ j → in_place (with_place cs i f) j ≡ in_place cs j
+in_place-with_other : {C : Type 0} (cs : List (Option C)) (i j : ℕ) (f : Option C → Option C) → i ≢ j → in_place (with_place cs i f) j ≡ in_place cs j
 in_place-with_other [] i j f n = refl
 in_place-with_other (c ∷ cs) zero zero f n = absurd (n refl)
 in_place-with_other (c ∷ cs) zero (suc j) f n = refl
 in_place-with_other (c ∷ cs) (suc i) zero f n = refl
 in_place-with_other (c ∷ cs) (suc i) (suc j) f n = in_place-with_other cs i j f (λ e. n (ap suc e))
 
-pub in_place_past : {C : Type 0} (cs : List (Option C)) (i : ℕ) → length cs ≤ i → in_place cs i ≡ None
+in_place_past : {C : Type 0} (cs : List (Option C)) (i : ℕ) → length cs ≤ i → in_place cs i ≡ None
 in_place_past [] i h = refl
 in_place_past (c ∷ cs) zero h = absurd (omega arith)
 in_place_past (c ∷ cs) (suc i) h = in_place_past cs i (omega arith)
 
-pub with_place_past : {C : Type 0} (cs : List (Option C)) (i : ℕ) (f : Option C → Option C) → length cs ≤ i → with_place cs i f ≡ cs
+with_place_past : {C : Type 0} (cs : List (Option C)) (i : ℕ) (f : Option C → Option C) → length cs ≤ i → with_place cs i f ≡ cs
 with_place_past [] i f h = refl
 with_place_past (c ∷ cs) zero f h = absurd (omega arith)
 with_place_past (c ∷ cs) (suc i) f h = ap (λ ds. c ∷ ds) (with_place_past cs i f (omega arith))
 
-pub in_place-left : {C : Type 0} (cs ds : List (Option C)) (i : ℕ) → i < length cs → in_place (cs ++ ds) i ≡ in_place cs i
+in_place-left : {C : Type 0} (cs ds : List (Option C)) (i : ℕ) → i < length cs → in_place (cs ++ ds) i ≡ in_place cs i
 in_place-left [] ds i h = absurd (omega arith)
 in_place-left (c ∷ cs) ds zero h = refl
 in_place-left (c ∷ cs) ds (suc i) h = in_place-left cs ds i (omega arith)
 
-pub with_place-left : {C : Type 0} (cs ds : List (Option C)) (i : ℕ) (f : Option C → Option C) → i < length cs → with_place (cs ++ ds) i f ≡ with_place cs i f ++ ds
+with_place-left : {C : Type 0} (cs ds : List (Option C)) (i : ℕ) (f : Option C → Option C) → i < length cs → with_place (cs ++ ds) i f ≡ with_place cs i f ++ ds
 with_place-left [] ds i f h = absurd (omega arith)
 with_place-left (c ∷ cs) ds zero f h = refl
 with_place-left (c ∷ cs) ds (suc i) f h = ap (λ es. c ∷ es) (with_place-left cs ds i f (omega arith))
 
-pub in_place-right : {C : Type 0} (cs ds : List (Option C)) (i j : ℕ) → i ≡ length cs + j → in_place (cs ++ ds) i ≡ in_place ds j
+in_place-right : {C : Type 0} (cs ds : List (Option C)) (i j : ℕ) → i ≡ length cs + j → in_place (cs ++ ds) i ≡ in_place ds j
 in_place-right [] ds i j e = ap (in_place ds) (omega arith)
 in_place-right (c ∷ cs) ds zero j e = absurd (omega arith)
 in_place-right (c ∷ cs) ds (suc i) j e = in_place-right cs ds i j (omega arith)
 
-pub with_place-right : {C : Type 0} (cs ds : List (Option C)) (i j : ℕ) (f : Option C → Option C) → i ≡ length cs + j → with_place (cs ++ ds) i f ≡ cs ++ with_place ds j f
+with_place-right : {C : Type 0} (cs ds : List (Option C)) (i j : ℕ) (f : Option C → Option C) → i ≡ length cs + j → with_place (cs ++ ds) i f ≡ cs ++ with_place ds j f
 with_place-right [] ds i j f e = ap (λ k. with_place ds k f) (omega arith)
 with_place-right (c ∷ cs) ds zero j f e = absurd (omega arith)
 with_place-right (c ∷ cs) ds (suc i) j f e = ap (λ es. c ∷ es) (with_place-right cs ds i j f (omega arith))
 
 -- two lists are the same if they are as long and have the same in every place
-pub places_determine : {C : Type 0} (cs ds : List (Option C)) → length cs ≡ length ds → ((i : ℕ) → i < length cs → in_place cs i ≡ in_place ds i) → cs ≡ ds
+places_determine : {C : Type 0} (cs ds : List (Option C)) → length cs ≡ length ds → ((i : ℕ) → i < length cs → in_place cs i ≡ in_place ds i) → cs ≡ ds
 places_determine [] [] l h = refl
 places_determine [] (d ∷ ds) l h = absurd (omega arith)
 places_determine (c ∷ cs) [] l h = absurd (omega arith)

@@ -8,6 +8,8 @@ mod images;
 #[cfg(test)]
 mod joins;
 #[cfg(test)]
+mod plain;
+#[cfg(test)]
 mod stretches;
 #[cfg(test)]
 mod tables;

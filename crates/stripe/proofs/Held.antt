@@ -5,9 +5,9 @@ use Rattle.std.specs.Option.{option_map, unwrap_or}
 use Rattle.field.specs.Symbols.{Symbols}
 use Rattle.code.specs.Contents.{at}
 use Rattle.shelf.specs.Meaning.{Meaning, column, is_standing, symbol_at}
-use Rattle.shelf_rows.specs.Rows.{has_rows, rows_at, rows_of}
-use Rattle.shelf_rows.proofs.Rows.{row_read}
-use Rattle.stripe.specs.Stripes.{has_stripe, held}
+use Rattle.shelf.specs.Rows.{has_rows, rows_at, rows_of}
+use Rattle.shelf.proofs.Rows.{row_read}
+use Rattle.stripe.specs.Stripes.{OnlyStripe, has_stripe, held}
 
 module _ (Y : Symbols) {T : Type 0} (value : T → Y.Symbol) where
   -- what stands in a row
@@ -31,6 +31,15 @@ module _ (Y : Symbols) {T : Type 0} (value : T → Y.Symbol) where
   -- by the box's number
   pub held_number : (m from : ℕ) (s : Meaning T) (b : ℕ) → 1 ≤ b → held Y value m from s (b - 1) ≡ at Y value (rows_at s b from (2 ^ m))
   held_number m from s b h = let e : suc (b - 1) ≡ b = omega arith in ap (λ d. at Y value (rows_at s d from (2 ^ m))) e
+
+-- one change of a stripe after another
+pub only_then : {T : Type 0} (m from : ℕ) (s t u : Meaning T) → OnlyStripe m from s t → OnlyStripe m from t u → OnlyStripe m from s u
+only_then m from s t u p q = record {
+  boxes = q.boxes ∙ p.boxes;
+  rows = q.rows ∙ p.rows;
+  stand = λ b. q.stand b ∙ p.stand b;
+  elsewhere = λ b a h. q.elsewhere b a h ∙ p.elsewhere b a h;
+}
 
 -- a box that stands has the rows of the stripe
 pub stripe_rows : {T : Type 0} (m from : ℕ) (s : Meaning T) (b : ℕ) → has_stripe m from s ≡ true → is_standing s b ≡ true → has_rows s b from (2 ^ m) ≡ true

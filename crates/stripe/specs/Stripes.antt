@@ -8,7 +8,7 @@ use Rattle.code.specs.Standing.{FileOf}
 use Rattle.refusal.specs.Refusals.{Reason, where_holds}
 use Rattle.refusal.specs.declared.Refusal.TheVariants.{Shape}
 use Rattle.shelf.specs.Meaning.{Meaning, box_count, is_standing, symbol_at}
-use Rattle.shelf_rows.specs.Rows.{rows_at}
+use Rattle.shelf.specs.Rows.{rows_at}
 
 -- does the box in place b stand?
 abbrev pub stands : {T : Type 0} → Meaning T → ℕ → Bool

@@ -1,5 +1,5 @@
 -- What reading the columns of a stripe leads to. Assumes nothing.
-use Rattle.std.proofs.Common.{◌≡◌, ℕ, zero, suc, ◌+◌, ◌*◌, ◌^◌, ◌<◌, Bool, true, if◌then◌else◌, List, ◌-◌, drop, length, take, sym, refl, ap, ap₂, ◌∙◌, subst, add-one, arith, tests}
+use Rattle.std.proofs.Common.{◌≡◌, ℕ, suc, ◌+◌, ◌*◌, ◌^◌, ◌<◌, Bool, true, List, ◌-◌, drop, length, take, sym, ap, ap₂, ◌∙◌, subst, add-one, arith}
 use Rattle.std.proofs.lemmas.Bool.{cond-true}
 use Rattle.field.specs.Symbols.{Symbols}
 use Rattle.code.specs.Codes.{Code, Column, File, data_boxes, full}
@@ -10,38 +10,35 @@ use borrow.Rule.Slice.PartMut.{put_mid}
 use Rattle.code.specs.Standing.{Counts, FileOf, standing}
 use Rattle.missing.specs.Missing.{Found, present}
 use Rattle.missing.specs.declared.Missing.{Missing}
+use Rattle.missing.proofs.Counts.{as_many}
 use Rattle.missing.proofs.Presence.{present_found}
 use Rattle.shelf.specs.Meaning.{Meaning}
-use Rattle.shelf_rows.specs.Rows.{has_rows, rows_at, rows_read}
+use Rattle.shelf.specs.Rows.{has_rows, rows_at, rows_read}
+use Rattle.stripe.proofs.Held.{stripe_rows}
 use Rattle.stripe.specs.Stripes.{StripeFile, has_stripe, held, stands}
 
--- a box that stands has the rows of the stripe
 module _ {T : Type 0} (m from b : ℕ) (s : Meaning T) where
-  pub stripe_rows : has_stripe m from s ≡ true → stands s b ≡ true → has_rows s (suc b) from (2 ^ m) ≡ true
-  stripe_rows e h = grind (arith, tests)
-
-  pub column_read : (xs : List T) → has_stripe m from s ≡ true → stands s b ≡ true → length xs ≡ 2 ^ m → rows_read s (b + 1) from xs ≡ rows_at s (suc b) from (2 ^ m)
+  column_read : (xs : List T) → has_stripe m from s ≡ true → stands s b ≡ true → length xs ≡ 2 ^ m → rows_read s (b + 1) from xs ≡ rows_at s (suc b) from (2 ^ m)
   column_read xs e h l =
-      let there : has_rows s (b + 1) from (length xs) ≡ true = ap₂ (λ k n. has_rows s k from n) (add-one b) l ∙ stripe_rows e h in
+      let there : has_rows s (b + 1) from (length xs) ≡ true = ap₂ (λ k n. has_rows s k from n) (add-one b) l ∙ stripe_rows m from s (suc b) e h in
       cond-true (has_rows s (b + 1) from (length xs)) (rows_at s (b + 1) from (length xs)) xs there ∙ ap₂ (λ k n. rows_at s k from n) (add-one b) l
 
 -- the file is the same wherever the same boxes stand
 module _ {A : Type 0} (c : Code A) (p q : ℕ → Bool) (like : (b : ℕ) → b < data_boxes c + 2 → p b ≡ q b) where
-  as_many : (b : ℕ) → b < data_boxes c + 2 → standing p b ≡ standing q b
-  as_many zero l = refl
-  as_many (suc b) l = ap₂ (λ (v : Bool) (n : ℕ). if v then suc n else n) (like b (omega arith)) (as_many b (omega arith))
+  as_many_below : (b : ℕ) → b < data_boxes c + 2 → standing p b ≡ standing q b
+  as_many_below b l = as_many p q b (λ d k. like d (omega arith))
 
-  pub file_like : (g : ℕ → Column c) (f : File c) → FileOf c p g f → FileOf c q g f
+  file_like : (g : ℕ → Column c) (f : File c) → FileOf c p g f → FileOf c q g f
   file_like g f of = record {
     has = λ b l k. of.has b l (there b l k);
     only = λ f' fits. of.only f' (λ b l k. fits b l (here b l k));
   }
     where
       there : (b : ℕ) → b < data_boxes c + 2 → Counts c q b → Counts c p b
-      there b l k = (like b l ∙ k.0, omega (arith, as_many b l, k.1))
+      there b l k = (like b l ∙ k.0, omega (arith, as_many_below b l, k.1))
 
       here : (b : ℕ) → b < data_boxes c + 2 → Counts c p b → Counts c q b
-      here b l k = (sym (like b l) ∙ k.0, omega (arith, as_many b l, k.1))
+      here b l k = (sym (like b l) ∙ k.0, omega (arith, as_many_below b l, k.1))
 
 -- the column of a box, read into a place of a file
 pub place_read : (Y : Symbols) {T : Type 0} (v : T → Y.Symbol) (m from b x rows : ℕ) (s : Meaning T) (file lent : List T) → rows ≡ 2 ^ m → length file ≡ 3 * m * 2 ^ m → x < 3 * m → has_stripe m from s ≡ true → stands s b ≡ true

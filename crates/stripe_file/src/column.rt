@@ -1,14 +1,13 @@
 // One column of a stripe.
 ghost use Rattle.std.specs.Prelude.{◌≡◌, ◌+◌, ◌*◌, ◌^◌, [], ◌∷◌, length, MatchResult};
 ghost use Rattle.refusal.specs.Refusals.{earliest, no_box, refusal, wrong_lengths};
-ghost use Rattle.shelf_rows.specs.Rows.{rows_at};
+ghost use Rattle.shelf.specs.Rows.{rows_at};
 ghost use Rattle.stripe.specs.Stripes.{no_stripe};
 ghost use Rattle.stripe.specs.Reasons.{box_out};
 
 use field::Sums;
 use refusal::{Refusal, fitting, numbered, refuse_if};
 use shelf::Shelf;
-use shelf_rows::read_rows;
 use stripe::{Stripe, on_shelf};
 
 // Copies the rows that box b has of the stripe into the buffer. Refused, with
@@ -29,6 +28,6 @@ pub fn read_column<F: Sums, S: Shelf<Symbol = F>>(
     fitting(&[(into.len(), stripe.cabinet.size.rows())])?;
     numbered(stripe.cabinet.size.boxes() + 2, b)?;
     refuse_if(!shelf.stands(b), Refusal::Out)?;
-    read_rows(shelf, b, stripe.from, into);
+    shelf.read_rows(b, stripe.from, into);
     Ok(())
 }

@@ -17,7 +17,6 @@ use field::{Quotients, Sums};
 use missing::{Missing, are_boxes};
 use refusal::{Refusal, fitting, refuse_if};
 use shelf::Shelf;
-use shelf_rows::read_rows;
 use stripe::{Stripe, on_shelf};
 
 // Reads what the box in place b holds of a stripe into place x of a file.
@@ -39,12 +38,7 @@ fn read_place<F: Sums, S: Shelf<Symbol = F>>(
     ensures lender { S.buffers shelf.new ≡ S.buffers shelf.old }
 {
     let rows = stripe.cabinet.size.rows();
-    read_rows(
-        shelf,
-        b + 1,
-        stripe.from,
-        &mut file[x * rows..(x + 1) * rows],
-    );
+    shelf.read_rows(b + 1, stripe.from, &mut file[x * rows..(x + 1) * rows]);
 }
 
 // Reads into each place of a file the column of the box that tells it.

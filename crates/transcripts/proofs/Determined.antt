@@ -12,6 +12,7 @@ use Rattle.script.specs.Scripts as commands
 use Rattle.transcripts.specs.Calls.{call_of, calls_of, numbered_call, zeros}
 use Rattle.transcripts.specs.Lengths.{boxes_for, file_for, half_for, rows_for}
 use Rattle.transcripts.specs.Lines.{lines, numbered_reply}
+use Rattle.transcripts.specs.Rounds.{IsRounds, made, turns}
 use Rattle.transcripts.specs.Transcripts.{IsTranscript}
 use Rattle.transcripts.proofs.Lists.{twice_replicate}
 
@@ -53,10 +54,16 @@ module _ (Y : Symbols) where
   calls_again [] = refl
   calls_again (call ∷ calls) = ap₂ (λ c cs. c ∷ cs) (call_again call) (calls_again calls)
 
+  same_calls : (s : ScriptValue) (a b : List (LedgerCall Y)) → map (numbered_call Y) a ≡ calls_of Y s.m s.commands → map (numbered_call Y) b ≡ calls_of Y s.m s.commands → a ≡ b
+  same_calls s a b is_a is_b = sym (calls_again a) ∙ ap (map call_of_numbers) (is_a ∙ sym is_b) ∙ calls_again b
+
   pub one_transcript : (s : ScriptValue) (a b : List ℕ) → IsTranscript Y s a → IsTranscript Y s b → a ≡ b
   one_transcript s a b t u =
-      let same : t.calls ≡ u.calls = sym (calls_again t.calls) ∙ ap (map call_of_numbers) (t.made ∙ sym u.made) ∙ calls_again u.calls in
-      t.printed ∙ ap (λ calls. lines s.commands (map (numbered_reply Y) (replies Y (fresh Y (boxes_for s.m) (rows_for s.m)) calls))) same ∙ sym u.printed
+      t.printed ∙ ap (λ calls. lines s.commands (map (numbered_reply Y) (replies Y (fresh Y (boxes_for s.m) (rows_for s.m)) calls))) (same_calls s t.calls u.calls t.made u.made) ∙ sym u.printed
+
+  pub one_rounds : (s : ScriptValue) (from times : ℕ) (a b : List ℕ) → IsRounds Y s from times a → IsRounds Y s from times b → a ≡ b
+  one_rounds s from times a b t u =
+      t.printed ∙ ap (λ calls. lines s.commands (map (λ e. numbered_reply Y e.1) (turns Y from times (made Y (fresh Y (boxes_for s.m) (rows_for s.m)) calls)).entries)) (same_calls s t.calls u.calls t.are u.are) ∙ sym u.printed
 
   number_again : (n : ℕ) → n < Y.size → Y.number (symbol n) ≡ n
   number_again n below = by (cases_lt n Y.size)
@@ -86,8 +93,14 @@ module _ (Y : Symbols) where
   commands_again m [] all = refl
   commands_again m (c ∷ cs) all = ap₂ (λ d ds. d ∷ ds) (command_again m c all.0) (commands_again m cs all.1)
 
+  abbrev script_calls : ScriptValue → List (LedgerCall Y)
+  script_calls s = map call_of_numbers (calls_of Y s.m s.commands)
+
+  script_again : (s : ScriptValue) → AllByRecursion (IsCommand Y.size) s.commands → map (numbered_call Y) (script_calls s) ≡ calls_of Y s.m s.commands
+  script_again s each = ap (λ cs. SetUp s.m ∷ cs) (commands_again s.m s.commands each)
+
   pub some_transcript : (s : ScriptValue) → AllByRecursion (IsCommand Y.size) s.commands → (bytes : List ℕ) × IsTranscript Y s bytes
-  some_transcript s each =
-      let calls = map call_of_numbers (calls_of Y s.m s.commands) in
-      let made : map (numbered_call Y) calls ≡ calls_of Y s.m s.commands = ap (λ cs. SetUp s.m ∷ cs) (commands_again s.m s.commands each) in
-      (_, record { calls = calls; made = made; printed = refl })
+  some_transcript s each = (_, record { calls = script_calls s; made = script_again s each; printed = refl })
+
+  pub some_rounds : (s : ScriptValue) (from times : ℕ) → AllByRecursion (IsCommand Y.size) s.commands → (bytes : List ℕ) × IsRounds Y s from times bytes
+  some_rounds s from times each = (_, record { calls = script_calls s; are = script_again s each; printed = refl })

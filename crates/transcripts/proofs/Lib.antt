@@ -3,4 +3,4 @@ pub mod Lists
 pub mod Printing
 pub mod Read
 pub mod Shelves
-pub mod Transcribed
+pub mod Turns

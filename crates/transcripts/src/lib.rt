@@ -5,4 +5,4 @@ mod calls;
 mod lengths;
 mod runs;
 
-pub use runs::{transcript, transcripts_stand};
+pub use runs::{rounds, transcript, transcripts_stand};

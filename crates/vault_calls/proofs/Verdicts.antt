@@ -29,7 +29,7 @@ module _ {T : Type 0} (s : Meaning T) where
       let below = standing_same n (omega arith) in
       ap₂ (λ t k. cond t (suc k) k) here below
 
-  pub many_same : (n : ℕ) → n ≤ box_count s → many_out n (λ b. not (is_out s (suc b))) ≡ many_out n (stands s)
+  many_same : (n : ℕ) → n ≤ box_count s → many_out n (λ b. not (is_out s (suc b))) ≡ many_out n (stands s)
   many_same n l = ap (λ k. where_holds (nat_lt (k + 2) n) ManyOut) (standing_same n l)
 
 -- three or more are out of a vault, as its stripe has it
@@ -103,7 +103,7 @@ module _ {T : Type 0} (s : Meaning T) (n b : ℕ) (boxes : box_count s ≡ n + 2
       let second : not (others_stand (stands s) (b - 1) (n + 2)) ≡ nat_lt (standing up (n + 2) + 1) (n + 2) = grind (arith, tests) in
       ap (λ t. where_holds (nat_lt n b || t) NotRenewable) second ∙ either (nat_lt n b) _ NotRenewable
 
-  pub renewal_same : earliest (no_box (n + 2) b ∷ box_stands s b ∷ many_out (n + 2) (stands s) ∷ not_renewable n b (stands s) ∷ [])
+  renewal_same : earliest (no_box (n + 2) b ∷ box_stands s b ∷ many_out (n + 2) (stands s) ∷ not_renewable n b (stands s) ∷ [])
       ≡ earliest (no_box (n + 2) b ∷ where_holds (not (is_out s b)) Standing ∷ many_out (n + 2) up ∷ parity_box n b ∷ no_second ∷ [])
   renewal_same =
       alike (nat_lt b 1 || nat_lt (n + 2) b) (is_standing s b) (not (is_out s b)) _ _ _ _

@@ -1,5 +1,4 @@
--- What each call of a vault answers, and what it leaves of the vault, its shelf and the buffer, whatever the boxes hold.
--- Assumes nothing.
+-- What each call of a vault answers, and what it leaves of the vault, its shelf and the buffer, whatever the boxes hold. Assumes nothing.
 use Rattle.std.specs.Prelude.{◌≡◌, ◌≢◌, ℕ, suc, ◌+◌, ◌-◌, ◌*◌, ◌^◌, ◌<◌, true, List, [], drop, length, Option, Some, Result, IfOk, OnErr}
 use Rattle.field.specs.Symbols.{Symbols}
 use Rattle.code.specs.Codes.{full, half_for}
@@ -8,7 +7,7 @@ use Rattle.code.specs.Standing.{standing}
 use Rattle.refusal.specs.Refusals.{earliest, refusal}
 use Rattle.refusal.specs.declared.Refusal.{Refusal}
 use Rattle.shelf.specs.Meaning.{Meaning, box_count, column, with_out}
-use Rattle.shelf_rows.specs.Rows.{rows_at}
+use Rattle.shelf.specs.Rows.{rows_at}
 use Rattle.stripe.specs.Stripes.{HoldsFile, OnlyStripe, StripeFile, held, stands}
 use Rattle.filing.specs.Restoring.{HoldsZero, Restored}
 use Rattle.amending.specs.Amendments.{Amended}

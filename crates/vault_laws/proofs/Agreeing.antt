@@ -8,6 +8,7 @@ use Rattle.code.specs.Laws.{Same}
 use Rattle.code.specs.Standing.{standing}
 use Rattle.code.proofs.Stands.{same_columns}
 use Rattle.code.proofs.Theory.{proper}
+use Rattle.missing.proofs.Counts.{as_many}
 use Rattle.shelf.specs.Meaning.{Meaning, box_count, is_out, is_standing}
 use Rattle.stripe.specs.Stripes.{HoldsFile, stands}
 use Rattle.ledger.specs.Calls.{boxes_of, out_count, size_of}
@@ -16,7 +17,6 @@ use Rattle.ledger.specs.Laws.{IsLedger}
 use Rattle.ledger.specs.Ledgers.{Ledger, contents}
 use Rattle.ledger.proofs.Counts.{all_boxes}
 use Rattle.vault_laws.specs.Agreement.{Agrees}
-use Rattle.vault_laws.proofs.Counts.{as_many}
 use Rattle.vault_laws.proofs.Files.{is_set_up}
 
 -- a box that stands as it did is out as it was

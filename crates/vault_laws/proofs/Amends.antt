@@ -1,5 +1,5 @@
 -- An accepted amendment goes as the ledger's. Assumes nothing.
-use Rattle.std.proofs.Common.{◌≡◌, ◌≢◌, ℕ, ◌+◌, ◌-◌, ◌*◌, ◌^◌, ◌<◌, ◌⊎◌, ⊎_elim, ◌&&◌, ◌==◌, if◌then◌else◌, List, length, get_or, slice_set, Some, refl, sym, ap, ap₂, ◌∙◌, arith, tests, get_or-set_other, get_or-set_same}
+use Rattle.std.proofs.Common.{◌≡◌, ◌≢◌, ℕ, ◌+◌, ◌-◌, ◌*◌, ◌^◌, ◌<◌, ⊎_elim, ◌&&◌, ◌==◌, if◌then◌else◌, List, length, get_or, slice_set, Some, refl, sym, ap, ap₂, ◌∙◌, arith, get_or-set_other, get_or-set_same}
 use Rattle.std.proofs.lemmas.List.{length-set}
 use Rattle.std.proofs.lemmas.Nat.{mul-add-lt, same_from_place}
 use Rattle.field.specs.Symbols.{Symbols}
@@ -9,7 +9,7 @@ use Rattle.code.specs.Laws.{Same}
 use Rattle.refusal.specs.declared.Refusal.TheVariants.{NoBox, NoRow}
 use Rattle.shelf.specs.Meaning.{Meaning}
 use Rattle.amending.specs.Amendments.{Amended, with_cell}
-use Rattle.amending.proofs.Moves.{by_place}
+use Rattle.amending.proofs.Moves.{by_place, cell_else, cell_here}
 use Rattle.ledger.specs.Calls.{lent, size_of}
 use Rattle.ledger.specs.Ledgers.{Ledger, accept, contents}
 use Rattle.ledger.specs.declared.calls.Answer.{Answer}
@@ -31,18 +31,12 @@ module _ (Y : Symbols) (m b a place : ℕ) (x : Y.Symbol) (file : List Y.Symbol)
   set_cell e r l = by_place b a e r
       (λ p.
       let here : e * 2 ^ m + r ≡ place = ap₂ (λ j k. j * 2 ^ m + k) p.0 p.1 ∙ sym is in
-      chosen p.0 p.1
+      cell_here Y b a x (contents Y m file) e r p.0 p.1
       ∙ sym (at_is Y (slice_set file place x) (e * 2 ^ m + r) ∙ ap (λ j. get_or (slice_set file place x) j Y.ring.zero) here ∙ get_or-set_same file place x Y.ring.zero inside))
       (λ n.
       let apart : e * 2 ^ m + r ≢ place = λ q. let w = same_from_place e r b a (2 ^ m) l row (q ∙ is) in ⊎_elim (λ o. o w.0) (λ o. o w.1) n in
-      not_chosen n ∙ at_is Y file (e * 2 ^ m + r)
+      cell_else Y b a x (contents Y m file) e r n ∙ at_is Y file (e * 2 ^ m + r)
       ∙ sym (at_is Y (slice_set file place x) (e * 2 ^ m + r) ∙ get_or-set_other file place (e * 2 ^ m + r) x Y.ring.zero apart))
-    where
-      chosen : e ≡ b → r ≡ a → with_cell Y b a x (contents Y m file) e r ≡ x
-      chosen p q = grind (arith, tests)
-
-      not_chosen : (e ≢ b) ⊎ (r ≢ a) → with_cell Y b a x (contents Y m file) e r ≡ contents Y m file e r
-      not_chosen n = grind (arith, tests)
 
 module _ (Y : Symbols) {T : Type 0} (value : T → Y.Symbol) where
   module _ (l : Ledger Y) (m : ℕ) (s s' : Meaning T) (agrees : Agrees Y value l (Some m) s) (b a : ℕ) (y : T) (work buffer : List T)

@@ -1,14 +1,9 @@
 -- How many boxes stand where some are out. Assumes nothing.
-use Rattle.std.proofs.Common.{◌≡◌, ◌≢◌, ℕ, zero, suc, ◌+◌, ◌<◌, ◌≤◌, Bool, true, false, cond, if◌then◌else◌, nat_lt, inl, inr, refl, sym, ap, ap₂, ◌∙◌, arith, tests}
+use Rattle.std.proofs.Common.{◌≡◌, ◌≢◌, ℕ, zero, suc, ◌+◌, ◌<◌, ◌≤◌, Bool, true, false, cond, nat_lt, inl, inr, refl, sym, ap, ◌∙◌, arith, tests}
 use Rattle.std.proofs.lemmas.Bool.{cases_eq, cases_order, true≢false}
 use Rattle.std.proofs.lemmas.Bool.Decides.{nat_tests}
 use Rattle.code.specs.Standing.{standing}
 use Rattle.missing.proofs.Counts.{most_below}
-
--- the same boxes are as many
-pub as_many : (p q : ℕ → Bool) (n : ℕ) → ((b : ℕ) → b < n → p b ≡ q b) → standing p n ≡ standing q n
-as_many p q zero like = refl
-as_many p q (suc n) like = ap₂ (λ (t : Bool) (k : ℕ). if t then suc k else k) (like n (omega arith)) (as_many p q n (λ b l. like b (omega arith)))
 
 module _ (stands : ℕ → Bool) where
   -- with k boxes out below box d, and d out, there are k + 1 fewer

@@ -17,11 +17,11 @@ use Rattle.vault_laws.proofs.Step.{step_goes}
 
 module _ (Y : Symbols) {T : Type 0} (value : T → Y.Symbol) where
   -- calls from anywhere: what they answer is the ledger's, and the vault is as the ledger says afterwards
-  record Follows (l : Ledger Y) (calls : List (Call T (List T))) (replies : List (Reply T)) (size' : Option ℕ) (s' : Meaning T) : Type 0 where
-    answered : map (told_reply Y value) replies ≡ ledger_replies Y l (map (told_call Y value) calls)
-    agrees : Agrees Y value (final Y l (map (told_call Y value) calls)) size' s'
+  pub record Follows (l : Ledger Y) (calls : List (Call T (List T))) (replies : List (Reply T)) (size' : Option ℕ) (s' : Meaning T) : Type 0 where
+    pub answered : map (told_reply Y value) replies ≡ ledger_replies Y l (map (told_call Y value) calls)
+    pub agrees : Agrees Y value (final Y l (map (told_call Y value) calls)) size' s'
 
-  follows : (calls : List (Call T (List T))) (replies : List (Reply T)) (l : Ledger Y) (size : Option ℕ) (s : Meaning T) (size' : Option ℕ) (s' : Meaning T)
+  pub follows : (calls : List (Call T (List T))) (replies : List (Reply T)) (l : Ledger Y) (size : Option ℕ) (s : Meaning T) (size' : Option ℕ) (s' : Meaning T)
       → Agrees Y value l size s → Run Y value calls replies size s size' s' → Follows l calls replies size' s'
   follows [] [] l size s size' s' now run = record {
     answered = refl;

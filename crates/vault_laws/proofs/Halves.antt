@@ -1,5 +1,5 @@
 -- The buffer that a renewal leaves halves in. Assumes nothing.
-use Rattle.std.proofs.Common.{◌≡◌, ℕ, ◌+◌, ◌-◌, ◌*◌, ◌^◌, ◌<◌, ◌≤◌, List, ◌++◌, length, map, take, drop, get_or, sym, ap, ap₂, ◌∙◌, arith}
+use Rattle.std.proofs.Common.{◌≡◌, ℕ, zero, suc, ◌+◌, ◌-◌, ◌*◌, ◌^◌, ◌<◌, ◌≤◌, List, ◌++◌, length, map, take, drop, get_or, mul-le-mul_right, pow-suc, sym, ap, ap₂, ◌∙◌, arith}
 use Rattle.std.proofs.lemmas.List.{get_or-take, length-take-le, map-append, take-append-drop, take-map}
 use Rattle.std.proofs.lemmas.Nat.{mul-add-lt}
 use Rattle.field.specs.Symbols.{Symbols}
@@ -7,9 +7,19 @@ use Rattle.code.specs.Codes.{full, half_for, helper}
 use Rattle.code.specs.Contents.{parts}
 use Rattle.shelf.specs.Meaning.{Meaning}
 use Rattle.stripe.specs.Stripes.{held}
-use Rattle.renewing.proofs.Restored.{room}
 use Rattle.ledger.proofs.Lists.{joined, joined_held}
 use Rattle.vault_calls.specs.Calls.{BoxRenewed}
+
+-- a buffer for a file has room for the halves, and for a column behind them
+room : (m : ℕ) → 1 ≤ m → (3 * m + 1) * 2 ^ (m - 1) + 2 ^ m ≤ 3 * m * 2 ^ m
+room zero h = absurd (omega arith)
+room (suc k) h =
+    let twice : 2 ^ suc k ≡ 2 * 2 ^ k = omega (arith, pow-suc 2 k) in
+    let p = 2 ^ k in
+    let less : suc k - 1 ≡ k = omega arith in
+    let e : 2 ^ (suc k - 1) ≡ p = ap (λ n. 2 ^ n) less in
+    let one : 1 * p ≤ suc k * p = mul-le-mul_right p h in
+    rw e (rw twice (omega (arith, one)))
 
 module _ (Y : Symbols) {T : Type 0} (value : T → Y.Symbol) (m : ℕ) (some : 1 ≤ m) (s s' : Meaning T) (b : ℕ) (work buffer : List T) (taken : ℕ) (long : length buffer ≡ 3 * m * 2 ^ m)
     (did : BoxRenewed Y value m s s' b work buffer taken) where

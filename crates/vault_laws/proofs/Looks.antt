@@ -3,6 +3,7 @@ use Rattle.std.proofs.Common.{◌≡◌, ℕ, suc, ◌+◌, ◌-◌, ◌*◌, �
 use Rattle.field.specs.Symbols.{Symbols}
 use Rattle.code.specs.Codes.{Alike, column, full}
 use Rattle.code.specs.Contents.{at}
+use Rattle.code.proofs.Stands.{same_halves}
 use Rattle.refusal.specs.declared.Refusal.TheVariants.{NoBox, Out}
 use Rattle.shelf.specs.Meaning.{Meaning, is_out, is_standing}
 use Rattle.stripe.specs.Stripes.{held}
@@ -14,7 +15,6 @@ use Rattle.ledger.specs.declared.calls.Answer.TheVariants.{Done}
 use Rattle.ledger.specs.declared.calls.Call.TheVariants.{Read, Column, Message}
 use Rattle.ledger.proofs.Lists.{length-listed, listed_held}
 use Rattle.ledger.proofs.Steps.{Clear}
-use Rattle.ledger.proofs.Alike.{half_same}
 use Rattle.vault_calls.specs.Calls.{Accepts}
 use Rattle.vault_laws.specs.Agreement.{Agrees, told_call}
 use Rattle.vault_laws.proofs.Agreeing.{box_count_is, size_is}
@@ -70,7 +70,7 @@ module _ (Y : Symbols) {T : Type 0} (value : T → Y.Symbol) (l : Ledger Y) (m :
         answer = refl;
         buffer_is = ap (λ k. half_in Y k l.file (lost - 1) (helper - 1)) size
             ∙ sym (listed_held Y value (2 ^ (m - 1)) _ buffer (long_as Y value l agrees.lawful (Message helper lost into) buffer clear long ∙ length-listed _ _ ∙ ap (λ k. 2 ^ (k - 1)) size)
-            (λ j k. done.half j k ∙ half_same (full Y m) (is_set_up Y value l m s agrees).some (lost - 1) _ _ (its_column helper (grind arith) (grind arith) (clear Out)) j k));
+            (λ j k. done.half j k ∙ same_halves (full Y m) (is_set_up Y value l m s agrees).some (lost - 1) _ _ (its_column helper (grind arith) (grind arith) (clear Out)) j k));
         agrees = stays done.stays;
       }
   message_goes helper lost into x buffer clear long done = absurd done

@@ -4,6 +4,7 @@ use Rattle.std.proofs.lemmas.Bool.{cases_eq}
 use Rattle.std.proofs.lemmas.List.{drop-map, length-map}
 use Rattle.field.specs.Symbols.{Symbols}
 use Rattle.code.specs.Codes.{Alike, File, column, full, half_for, helper}
+use Rattle.code.proofs.Stands.{same_halves}
 use Rattle.code.proofs.Columns.{column_data}
 use Rattle.refusal.specs.declared.Refusal.TheVariants.{Length, NoBox, NotRenewable, Standing}
 use Rattle.shelf.specs.Meaning.{Meaning, is_out, is_standing}
@@ -17,7 +18,6 @@ use Rattle.ledger.specs.declared.calls.Answer.TheVariants.{Done, Count}
 use Rattle.ledger.specs.declared.calls.Call.TheVariants.{Renew}
 use Rattle.ledger.proofs.Accepted.{still}
 use Rattle.ledger.proofs.Steps.{Clear}
-use Rattle.ledger.proofs.Alike.{half_same}
 use Rattle.vault_calls.specs.Calls.{Accepts, BoxRenewed}
 use Rattle.vault_laws.specs.Agreement.{Agrees, told_call}
 use Rattle.vault_laws.proofs.Agreeing.{agreeing, out_and_standing, out_same, size_is, stand_is}
@@ -97,7 +97,7 @@ module _ (Y : Symbols) {T : Type 0} (value : T → Y.Symbol) where
         renewed_buffer Y value m some s s' b work buffer taken (long ∙ whole) did half_of
         (λ h j i w.
         let d = helper (full Y m) x h in
-        half_same (full Y m) some x (held Y value m 0 s d) (column (full Y m) f d) (hold d (grind (arith, tests)) (grind (arith, tests))) j w)
+        same_halves (full Y m) some x (held Y value m 0 s d) (column (full Y m) f d) (hold d (grind (arith, tests)) (grind (arith, tests))) j w)
 
     goes : Goes Y value (accept Y l (told_call Y value (Renew b work))) (Count taken) buffer (Some m) s'
     goes =

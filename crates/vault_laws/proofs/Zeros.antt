@@ -1,9 +1,7 @@
 -- The zero file, and boxes that hold zero. Assumes nothing.
-use Rattle.std.proofs.Common.{◌≡◌, ℕ, suc, ◌+◌, ◌*◌, ◌^◌, ◌<◌, [], ◌∷◌, get_or, ⊎_elim, Option, Some, None, refl, sym, ap, ◌∙◌, arith}
+use Rattle.std.proofs.Common.{◌≡◌, ℕ, suc, ◌+◌, ◌*◌, ◌^◌, ◌<◌, [], ◌∷◌, Option, Some, None, refl, sym, ap, ◌∙◌, arith}
 use Rattle.std.specs.Option.{option_map}
 use Rattle.std.proofs.Math.Path.{fun_ext}
-use Rattle.std.proofs.lemmas.Bool.{cases_lt}
-use Rattle.std.proofs.lemmas.List.{get_or_past, get_or-replicate, length-replicate}
 use Rattle.std.proofs.lemmas.Option.{none-some, same_Some}
 use Rattle.field.specs.Symbols.{Symbols}
 use Rattle.field.proofs.Solver.{i, o, ◌⊕◌, ◌≐◌, ◌⟸◌, ◌·◌, ⊝◌, ring_by}
@@ -14,21 +12,16 @@ use Rattle.stripe.proofs.Held.{at_row}
 use Rattle.filing.specs.Restoring.{HoldsZero}
 use Rattle.amending.proofs.Singles.{column_plus}
 use Rattle.ledger.specs.Ledgers.{contents, zeros}
-use Rattle.ledger.proofs.Lists.{at_is}
+use Rattle.ledger.proofs.Lists.{zero_at}
 
 module _ (Y : Symbols) where
-  zero_at : (n k : ℕ) → get_or (zeros Y n) k Y.ring.zero ≡ Y.ring.zero
-  zero_at n k =
-      ⊎_elim (λ l. get_or-replicate n k Y.ring.zero Y.ring.zero l)
-      (λ l. get_or_past (zeros Y n) k Y.ring.zero (omega (arith, length-replicate n Y.ring.zero))) (cases_lt k n)
-
   -- what is its own double is zero, and so is a column of the zero file
   own_double : (x : Y.Symbol) → x ≡ Y.ring.plus x x → x ≡ Y.ring.zero
   own_double x = ring_by Y.ring (x ∷ []) (λ x. x ≐ o ⟸ (⊝ i · x ≐ x ⊕ x) ∷ []) refl
 
   pub zero_column : (m n b a : ℕ) → b < 3 * m + 2 → column (full Y m) (contents Y m (zeros Y n)) b a ≡ Y.ring.zero
   zero_column m n b a inside =
-      ap (λ f. column (full Y m) f b a) (fun_ext λ d. fun_ext λ r. at_is Y (zeros Y n) (d * 2 ^ m + r) ∙ zero_at n (d * 2 ^ m + r))
+      ap (λ f. column (full Y m) f b a) (fun_ext λ d. fun_ext λ r. zero_at Y n (d * 2 ^ m + r))
       ∙ own_double _ (ap (λ z. column (full Y m) (λ d r. z) b a) (sym (Y.ring.zero_plus Y.ring.zero)) ∙ column_plus (full Y m) (λ d r. Y.ring.zero) (λ d r. Y.ring.zero) b inside a)
 
   module _ {T : Type 0} (value : T → Y.Symbol) where

@@ -1,5 +1,4 @@
--- Two outcomes of a call are the same, as far as symbols' values go: two symbols of one value are one symbol for a program.
--- Assumes nothing.
+-- Two outcomes of a call are the same, as far as symbols' values go: two symbols of one value are one symbol for a program. Assumes nothing.
 use Rattle.std.specs.Prelude.{◌≡◌, ℕ, ◌<◌, List, map, Option, option_map}
 use Rattle.field.specs.Symbols.{Symbols}
 use Rattle.shelf.specs.Meaning.{IsShelf, Meaning, box_count, is_standing, symbol_at}

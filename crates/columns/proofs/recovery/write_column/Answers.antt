@@ -21,4 +21,4 @@ returns g c =
     let block = c.block.ensures in
     let d = g.F.Sums.value c.in-Some.d in
     recovered_given (full Y size.m) (proper Y size.m size.some halves.cabinet.marks) halves.lost halves.data d
-    (Y.ring.times_comm d _ ∙ ap (λ y. Y.ring.times y d) (sym (c.gap.ensures ∙ ap₂ (◌∸◌ Y.ring) block.second block.first)) ∙ c.in-Some.ensures) _ _ c.write_pairs.ensures
+    (Y.ring.times_comm d _ ∙ ap (λ y. Y.ring.times y d) (sym (c.gap.ensures ∙ ap₂ (◌∸◌ Y.ring) block.second block.first)) ∙ c.in-Some.ensures) _ _ c.write.ensures

@@ -1,9 +1,8 @@
-use Rattle.std.proofs.Common.{◌≡◌, ◌*◌, ◌^◌, length, sym, ap, ◌∙◌, ap₂, subst, arith}
+use Rattle.std.proofs.Common.{◌≡◌, ◌*◌, ◌^◌, length, sym, ap, ◌∙◌, subst, arith}
 use Rattle.code.specs.Codes.{full, sum}
 use Rattle.code.specs.Contents.{at, parts}
-use Rattle.code.proofs.Sums.{sum_more}
 use Rattle.columns.specs.Parities.{share}
-use Rattle.columns.proofs.Shares.{share_same, all_parts}
+use Rattle.columns.proofs.Shares.{shares_more, all_parts}
 use Rattle.columns.proofs.Slices.{Left, left_part, left_more}
 use Rattle.columns.proofs.parity.Parity.write.Goals as goal
 
@@ -25,11 +24,8 @@ loop-b-preserved g c =
       subst (λ k. Left Y v (2 ^ m) k file c.next.new.self.iter.rest.now) (sym steps.2) next,
       λ a l.
           c.add_share.ensures a l
-          ∙ ap₂ Y.ring.plus (inv.2 a l)
-          (ap (λ k. share c.args.self code k (at Y v x) a) steps.1
-          ∙ share_same c.args.self code came (at Y v x) (parts Y v (2 ^ m) file came) c.args.cabinet.now.size.some (left_part Y v (2 ^ m) came file _ x _ steps.0.1.0 size inv.1) a l)
-          ∙ sym (sum_more Y.ring came (λ b. share c.args.self code b (parts Y v (2 ^ m) file b) a))
-          ∙ ap (λ k. sum Y.ring k (λ b. share c.args.self code b (parts Y v (2 ^ m) file b) a)) (sym steps.2),
+          ∙ shares_more c.args.self code c.args.cabinet.now.size.some (parts Y v (2 ^ m) file) (at Y v x) came _ _ a steps.1 steps.2
+          (left_part Y v (2 ^ m) came file _ x _ steps.0.1.0 size inv.1) l _ (inv.2 a l),
     )
 
 pub returns : goal.returns

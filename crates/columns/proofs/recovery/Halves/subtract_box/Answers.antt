@@ -1,33 +1,56 @@
-use Rattle.std.proofs.Common.{◌≡◌, ◌-◌, ◌^◌, if◌then◌else◌, ◌==◌, sym, ap, ◌∙◌, arith}
+use Rattle.std.proofs.Common.{◌≡◌, ◌-◌, ◌^◌, ◌<◌, ◌≢◌, sym, ap, ◌∙◌, subst}
 use Rattle.code.specs.Blocks.{◌∸◌}
-use Rattle.code.specs.Codes.{full}
+use Rattle.code.specs.Codes.{full, shift, image}
 use Rattle.code.specs.Contents.{at, parts}
-use Rattle.code.specs.Recovery.{seat}
+use Rattle.code.specs.Recovery.{eigenvalue, half_image, seat}
+use Rattle.code.specs.Rows.{lower, pair_of}
 use Rattle.code.proofs.Sums.{if_same, if_other}
-use Rattle.code.proofs.Theory.{shift_below, half_image_same, less_none}
-use Rattle.columns.proofs.Slices.{read}
+use Rattle.code.proofs.Theory.{shift_below, half_image_same}
+use Rattle.columns.specs.Sides.{sides}
+use Rattle.columns.proofs.Sides.{sides_same}
 use Rattle.columns.proofs.recovery.Halves.subtract_box.Goals as goal
 
-pub returns-then-b-self : goal.returns-then-b-self
-returns-then-b-self g c =
-    let R = g.F.Sums.symbols.ring in
-    let none : (a v : g.F.Sums.symbols.Symbol) → a ≡ ◌∸◌ R a (if c.args.b == c.args.self.now.lost then R.zero else v) =
-    λ a v. less_none R a ∙ ap (◌∸◌ R a) (sym (if_same _ _ c.if-b-self.true R.zero v)) in
-    record { first = none _ _; second = none _ _ }
+pub returns-then-digit-along : goal.returns-then-digit-along
+returns-then-digit-along g c =
+    let Y = g.F.Sums.symbols in
+    let R = Y.ring in
+    let v = g.F.Sums.value in
+    let size = c.args.self.now.cabinet.size in
+    let m = size.m in
+    let code = full Y m in
+    let x = c.args.self.now.lost in
+    let b = c.args.b in
+    let k = shift code x in
+    let half = at Y v c.half-half.result.now in
+    let sent = parts Y v (2 ^ (m - 1)) c.args.self.now.numbers.now (seat x b) in
+    let numbers = c.half-half.ensures.numbers in
+    let made = c.block.ensures in
+    let e = v c.eigenvalue-eigenvalue.result in
+    let is_e = c.eigenvalue-eigenvalue.ensures ∙ (λ i. eigenvalue R (c.kind_at.ensures i) (made.is_kind i) (made.first i) (made.second i)) in
+    let same : shift code b ≡ shift code x = sym c.digit.ensures.place ∙ c.if-digit-along.true ∙ c.digit-along.ensures.place in
+    λ a l.
+    c.subtract_multiple.ensures a (subst (λ n. a < 2 ^ n) (sym c.digit-along.ensures.digits) l)
+    ∙ ap (◌∸◌ R (at Y v c.args.column.now a))
+    ((λ i. sides (c.digit-along.ensures.place i) half (λ j. R.times e (half j)) a)
+    ∙ sides_same k half (λ j. R.times e (half j)) m sent (half_image code x b sent) (shift_below code x size.some) numbers
+    (λ j h. (λ i. R.times (is_e i) (numbers j h i)) ∙ sym (if_same (shift code b) (shift code x) same _ _)) a l)
 
-pub returns : goal.returns
-returns g c =
+pub returns-else-digit-along : goal.returns-else-digit-along
+returns-else-digit-along g c =
     let Y = g.F.Sums.symbols in
     let v = g.F.Sums.value in
     let size = c.args.self.now.cabinet.size in
     let m = size.m in
+    let code = full Y m in
     let x = c.args.self.now.lost in
     let b = c.args.b in
+    let k = shift code x in
+    let half = at Y v c.half-half.result.now in
     let sent = parts Y v (2 ^ (m - 1)) c.args.self.now.numbers.now (seat x b) in
-    let half = c.half-half.ensures in
-    let number = read Y v c.half-half.result.now c.args.j _ (omega (arith, half.pairs, c.requires.pair)) c.index-half-j.is ∙ half.numbers c.args.j c.requires.pair in
-    let image = c.half_of_image-image.ensures ∙ half_image_same (full Y m) x b (at Y v c.half-half.result.now) sent (shift_below (full Y m) x size.some) (shift_below (full Y m) b size.some) half.numbers c.args.j c.requires.pair in
-    record {
-      first = c.minus.ensures ∙ ap (◌∸◌ Y.ring (v c.args.left.0)) (number ∙ sym (if_other b x c.if-b-self.false Y.ring.zero _));
-      second = c.minus-2.ensures ∙ ap (◌∸◌ Y.ring (v c.args.left.1)) (image ∙ sym (if_other b x c.if-b-self.false Y.ring.zero _));
-    }
+    let numbers = c.half-half.ensures.numbers in
+    let apart : shift code b ≢ shift code x = λ e. c.if-digit-along.false (c.digit.ensures.place ∙ e ∙ sym c.digit-along.ensures.place) in
+    λ a l.
+    c.subtract_image.ensures a l
+    ∙ ap (◌∸◌ Y.ring (at Y v c.args.column.now a))
+    (sides_same k half (λ j. image code b (λ a. half (pair_of k a)) (lower k j)) m sent (half_image code x b sent) (shift_below code x size.some) numbers
+    (λ j h. sym (if_other (shift code b) (shift code x) apart _ _) ∙ half_image_same code x b half sent (shift_below code x size.some) (shift_below code b size.some) numbers j h) a l)

@@ -1,3 +1,0 @@
-pub mod Columns
-pub mod Rows
-pub mod Turns
