@@ -1,5 +1,5 @@
 -- Columns by their runs: with w the weight of a digit, each 2w rows in which row i and row i + w are partners. Assumes nothing.
-use Rattle.std.proofs.Common.{◌≡◌, ℕ, suc, ◌+◌, ◌-◌, ◌*◌, ◌/◌, ◌%◌, ◌^◌, ◌<◌, ◌≤◌, ◌≢◌, true, false, List, map, length, take, drop, slice_index_or, slice_set, sym, ap, ap₂, ◌∙◌, subst, inl, inr, pow-suc, pow-add, mul-le-mul_right, arith, pow_pos, length-set}
+use Rattle.std.proofs.Common.{◌≡◌, ℕ, suc, ◌+◌, ◌-◌, ◌*◌, ◌/◌, ◌^◌, ◌<◌, ◌≤◌, ◌≢◌, true, false, List, map, length, slice_index_or, slice_set, sym, ap, ap₂, ◌∙◌, subst, inl, inr, pow-suc, pow-add, mul-le-mul_right, arith, length-set}
 use Rattle.std.proofs.lemmas.Bool.{cases_eq, cases_lt}
 use Rattle.std.proofs.lemmas.List.{length-map}
 use Rattle.std.proofs.lemmas.Nat.{shr_high, mod_low, shl-shr}

@@ -60,7 +60,12 @@ pub(crate) fn add_pairs<F: Sums>(cabinet: &Cabinet<F>, b: usize, sum: &mut [F], 
     let run = 2 * weight;
     for r in 0..cabinet.size.rows() / run {
         let start = r * run;
-        add_run(block, weight, &mut sum[start..start + run], &column[start..start + run]);
+        add_run(
+            block,
+            weight,
+            &mut sum[start..start + run],
+            &column[start..start + run],
+        );
     }
 }
 

@@ -1,4 +1,4 @@
-use Rattle.std.proofs.Common.{rules, ◌≡◌, ℕ, ◌+◌, ◌-◌, ◌*◌, ◌^◌, ◌<◌, ◌≤◌, length, refl, ap, ap₂, ◌∙◌, arith}
+use Rattle.std.proofs.Common.{rules, ◌≡◌, ℕ, ◌+◌, ◌-◌, ◌*◌, ◌^◌, ◌≤◌, refl, ap, ap₂, ◌∙◌, arith}
 use Rattle.code.specs.Codes.{full, image, shift}
 use Rattle.code.specs.Contents.{added, at}
 use Rattle.code.proofs.Theory.{shift_below}
