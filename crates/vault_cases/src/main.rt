@@ -5,14 +5,11 @@
 use std::alloc::Global;
 use std::io::{self, Read};
 use std::{env, fs};
-use transcripts::transcript;
-
-// One byte more than the longest script, so that a longer text is too long.
-const MOST_BYTES: u64 = 16385;
+use transcripts::{BYTES_TO_READ, transcript};
 
 fn read(alloc: Global, input: impl Read + Drop) -> io::Result<Vec<u8>> {
     let mut text = Vec::new(alloc);
-    input.take(MOST_BYTES).read_to_end(&mut text)?;
+    input.take(BYTES_TO_READ).read_to_end(&mut text)?;
     Ok(text)
 }
 
