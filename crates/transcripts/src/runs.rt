@@ -117,6 +117,7 @@ fn no_script(alloc: Global) -> Result<String, AllocError>
 }
 
 // The transcript of a text. Err where memory runs out.
+#[tactic(auto, using(crate::proofs::Turns::no_turns))]
 pub fn transcript(alloc: Global, text: &[u8]) -> Result<String, AllocError>
     // Where no script is printed as the text, it says that there is none.
     ensures none { IfOk result (λ out. ((s : ScriptValue) → ¬ (Prints s text.now)) → string_bytes out ≡ line (codes "E" ∷ [])) }
