@@ -57,17 +57,17 @@ twice_sum a b =
     (λ i. bit_xor ((ap (λ n. n % 256) (xor_twice a b) ∙ xor_mod (a * 2) (b * 2) 8) i) ((ap (λ n. pick (n % 2) 27) (xor_shr a b 7) ∙ pick_left (a / 128) (b / 128) 27) i))
     ∙ xor_swap (a * 2 % 256) (b * 2 % 256) (pick (a / 128 % 2) 27) (pick (b / 128 % 2) 27)
 
-doubled_sum : (k a b c : ℕ) → picked (doublings k (bit_xor a b)) c ≡ bit_xor (picked (doublings k a) c) (picked (doublings k b) c)
+pub doubled_sum : (k a b c : ℕ) → picked (doublings k (bit_xor a b)) c ≡ bit_xor (picked (doublings k a) c) (picked (doublings k b) c)
 doubled_sum zero a b c = refl
 doubled_sum (suc k) a b c =
     (λ i. bit_xor (pick_right (c % 2) a b i) ((ap (λ n. picked (doublings k n) (c / 2)) (twice_sum a b) ∙ doubled_sum k (twice a) (twice b) (c / 2)) i))
     ∙ xor_swap (pick (c % 2) a) (pick (c % 2) b) (picked (doublings k (twice a)) (c / 2)) (picked (doublings k (twice b)) (c / 2))
 
-product_right : (a b c : ℕ) → product a (bit_xor b c) ≡ bit_xor (product a b) (product a c)
+pub product_right : (a b c : ℕ) → product a (bit_xor b c) ≡ bit_xor (product a b) (product a c)
 unfolding product
 product_right a b c = picked_sum (doublings 8 a) b c
 
-product_left : (a b c : ℕ) → product (bit_xor a b) c ≡ bit_xor (product a c) (product b c)
+pub product_left : (a b c : ℕ) → product (bit_xor a b) c ≡ bit_xor (product a c) (product b c)
 unfolding product
 product_left a b c = doubled_sum 8 a b c
 
@@ -97,7 +97,7 @@ same_map f g (x ∷ xs) e = λ i. All-head (λ y. f y ≡ g y) x xs e i ∷ same
 digits : IsTrue (all (λ c. picked powers c == c) 256)
 digits = refl
 
-agree : (f g : ℕ → ℕ) → Linear f → Linear g → All (λ x. f x ≡ g x) powers → (c : ℕ) → c < 256 → f c ≡ g c
+pub agree : (f g : ℕ → ℕ) → Linear f → Linear g → All (λ x. f x ≡ g x) powers → (c : ℕ) → c < 256 → f c ≡ g c
 agree f g lf lg e c h =
     let whole : picked powers c ≡ c = eqb-true (picked powers c) c (all_at (λ c. picked powers c == c) 256 digits c h) in
     ap f (sym whole) ∙ spread f lf powers c ∙ ap (λ ds. picked ds c) (same_map f g powers e) ∙ sym (spread g lg powers c) ∙ ap g whole
@@ -110,7 +110,7 @@ abbrev pub Tested : (f g : ℕ → ℕ → ℕ) → Type 0
 Tested f g = IsTrue (list_all (λ y. list_all (λ x. f x y == g x y) powers) powers)
 
 -- what holds of the powers for which a test is true
-told : (p : ℕ → Bool) (P : ℕ → Type 0) → ((x : ℕ) → IsTrue (p x) → P x) → IsTrue (list_all p powers) → All P powers
+pub told : (p : ℕ → Bool) (P : ℕ → Type 0) → ((x : ℕ) → IsTrue (p x) → P x) → IsTrue (list_all p powers) → All P powers
 told p P f t = All-weaker (λ x. IsTrue (p x)) P f powers (AllPass-from_list_all p powers t)
 
 pub agree_both : (f g : ℕ → ℕ → ℕ) → Bilinear f → Bilinear g → Tested f g → (a b : ℕ) → a < 256 → b < 256 → f a b ≡ g a b
@@ -133,7 +133,7 @@ turned : Tested product (λ a b. product b a)
 unfolding product
 turned = refl
 
-product_comm : (a b : ℕ) → a < 256 → b < 256 → product a b ≡ product b a
+pub product_comm : (a b : ℕ) → a < 256 → b < 256 → product a b ≡ product b a
 product_comm a b ha hb = agree_both product (λ a b. product b a) (by_right, by_left) (by_left, by_right) turned a b ha hb
 
 -- both sides of the law of three factors, of which z is the last
@@ -156,7 +156,7 @@ assoc_2 z t a b ha hb =
     ((λ x. after (λ n. product n z) (product x) (by_left z) (by_right x)), (λ y. after (λ n. product n z) (λ n. product n y) (by_left z) (by_left y)))
     ((λ x. after (product x) (λ n. product n z) (by_right x) (by_left z)), (λ y. by_left (product y z))) t a b ha hb
 
-product_assoc : (a b c : ℕ) → a < 256 → b < 256 → c < 256 → product (product a b) c ≡ product a (product b c)
+pub product_assoc : (a b c : ℕ) → a < 256 → b < 256 → c < 256 → product (product a b) c ≡ product a (product b c)
 product_assoc a b c ha hb hc =
     agree (product (product a b)) (λ z. product a (product b z)) (by_right (product a b)) (after (product a) (product b) (by_right a) (by_right b))
     (told joins (λ z. product (product a b) z ≡ product a (product b z)) (λ z u. assoc_2 z u a b ha hb) joined) c hc
@@ -165,7 +165,7 @@ ones : IsTrue (all (λ x. product 1 x == x) 256)
 unfolding product
 ones = refl
 
-one_product : (a : ℕ) → a < 256 → product 1 a ≡ a
+pub one_product : (a : ℕ) → a < 256 → product 1 a ≡ a
 one_product a h = eqb-true (product 1 a) a (all_at (λ x. product 1 x == x) 256 ones a h)
 
 -- ---- a product of bytes is a byte
@@ -173,7 +173,7 @@ pick_below : (s d : ℕ) → d < 256 → pick s d < 256
 pick_below zero d h = lit< tt
 pick_below (suc s) d h = h
 
-twice_below : (a : ℕ) → twice a < 256
+pub twice_below : (a : ℕ) → twice a < 256
 twice_below a = xor_lt 8 (a * 2 % 256) (pick (a / 128 % 2) 27) (mod-lt (a * 2) (lit< tt)) (pick_below (a / 128 % 2) 27 (lit< tt))
 
 picked_below : (k a b : ℕ) → a < 256 → picked (doublings k a) b < 256

@@ -31,7 +31,7 @@ module _ {A : Type 0} (R : Ring A) (m : ℕ) where
   cut_out C a h = cond-false (nat_lt a (2 ^ m)) (C a) R.zero (le-ltb a (2 ^ m) h)
 
   -- a column that is nothing above is its own cut
-  cut_own : (C E : ℕ → A) → ((a : ℕ) → a < 2 ^ m → C a ≡ E a) → ((a : ℕ) → 2 ^ m ≤ a → C a ≡ R.zero) → C ≡ cut E
+  pub cut_own : (C E : ℕ → A) → ((a : ℕ) → a < 2 ^ m → C a ≡ E a) → ((a : ℕ) → 2 ^ m ≤ a → C a ≡ R.zero) → C ≡ cut E
   cut_own C E h k = fun_ext λ a.
       elim (cases_lt a (2 ^ m)) [
         | inl l ↦ h a l ∙ sym (cut_in E a l)

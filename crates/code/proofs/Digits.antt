@@ -14,11 +14,11 @@ pub record Digits (Row : Type 0) : Type 0 where
   pub bit_else : (k l : ℕ) → k ≢ l → (c : Bool) (a : Row) → bit k (to l c a) ≡ bit k a
   pub to_else : (k l : ℕ) → k ≢ l → (b c : Bool) (a : Row) → to k b (to l c a) ≡ to l c (to k b a)
 
-abbrev val : Bool → ℕ
+abbrev pub val : Bool → ℕ
 val false = 0
 val true = 1
 
-val_small : (b : Bool) → val b < 2
+pub val_small : (b : Bool) → val b < 2
 val_small false = omega arith
 val_small true = omega arith
 

@@ -43,7 +43,7 @@ module _ {A Row : Type 0} (R : Ring A) (D : Digits Row) where
   op_total k M zero f = fun_ext λ a. ring R (M (bit k a) false ∷ M (bit k a) true ∷ []) (λ m n. m ⊗ o ⊕ n ⊗ o ≐ o) refl
   op_total k M (suc n) f = op_add R D k M (total n f) (f n) ∙ ap (λ X a. X a + Op R D k M (f n) a) (op_total k M n f)
 
-  halved_total : (u : Kind) (k : ℕ) (n : ℕ) (f : ℕ → Row → A) → halved R D u k (total n f) ≡ total n (λ b. halved R D u k (f b))
+  pub halved_total : (u : Kind) (k : ℕ) (n : ℕ) (f : ℕ → Row → A) → halved R D u k (total n f) ≡ total n (λ b. halved R D u k (f b))
   halved_total u k n f =
       halved_op R D u k (total n f) ∙ op_total k (half_m R u) n f ∙ ap (total n) (fun_ext λ b. sym (halved_op R D u k (f b)))
 
@@ -79,10 +79,10 @@ module _ {A Row : Type 0} (R : Ring A) (D : Digits Row) where
       unfolding known
       known_at b G a = refl
 
-      known_same : (b : ℕ) → place b ≡ place x → (G : Row → A) → known b G ≡ λ a. eigenvalue R (kind x) (kind b) (p b) (q b) * G a
+      pub known_same : (b : ℕ) → place b ≡ place x → (G : Row → A) → known b G ≡ λ a. eigenvalue R (kind x) (kind b) (p b) (q b) * G a
       known_same b e G = fun_ext λ a. known_at b G a ∙ if_same (place b) (place x) e _ _
 
-      known_else : (b : ℕ) → place b ≢ place x → (G : Row → A) → known b G ≡ blocks b G
+      pub known_else : (b : ℕ) → place b ≢ place x → (G : Row → A) → known b G ≡ blocks b G
       known_else b n G = fun_ext λ a. known_at b G a ∙ if_other (place b) (place x) n _ _
 
       known_is : (b : ℕ) → b < n → b ≢ x → (C : Row → A) → H (blocks b C) ≡ known b (H C)

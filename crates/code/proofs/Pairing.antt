@@ -67,7 +67,7 @@ pub pair_below : (m k a : ℕ) → k < m → a < 2 ^ m → pair_of k a < 2 ^ (m 
 pair_below m k a h l =
     let j = m - suc k in cat_below (m - 1) k j _ _ (omega arith) (top_below m (suc k) j a (omega arith) l) (rest_below k a)
 
-lower_rises : (k i j : ℕ) → i < j → lower k i < lower k j
+pub lower_rises : (k i j : ℕ) → i < j → lower k i < lower k j
 lower_rises k i j h =
     let top : i / 2 ^ k ≤ j / 2 ^ k = le-div (i / 2 ^ k) j (2 ^ k) (pow_pos k) (omega (arith, shr_split i k)) in
     omega (arith, lower_is k i, lower_is k j, mul-le-mul_right (2 ^ k) top)

@@ -34,8 +34,12 @@ pub(crate) fn add_rows<F: Sums>(sum: &mut [F], column: &[F])
     }
 }
 
+// From how many rows on a column is long.
+const LONG: usize = 8;
+
 // Adds what a block makes of a run: the rows i and i + weight are a pair, for i below the weight.
-fn add_run<F: Sums>(block: Block<F>, weight: usize, sum: &mut [F], column: &[F])
+#[inline(always)]
+fn add_side_by_side<F: Sums>(block: Block<F>, weight: usize, sum: &mut [F], column: &[F])
     requires sums { length sum.old ≡ 2 * weight }
     requires rows { length column.now ≡ 2 * weight }
     ensures lower { (i : ℕ) → i < weight → at F.symbols F.value sum.new i ≡ F.symbols.ring.plus (at F.symbols F.value sum.old i) (blocked F.symbols.ring block.kind (F.value block.p) (F.value block.q) (at F.symbols F.value column.now i) (at F.symbols F.value column.now (i + weight)) false) }
@@ -45,6 +49,33 @@ fn add_run<F: Sums>(block: Block<F>, weight: usize, sum: &mut [F], column: &[F])
         let (s, t) = block.apply(column[i], column[i + weight]);
         sum[i] = sum[i].sum(s);
         sum[i + weight] = sum[i + weight].sum(t);
+    }
+}
+
+// The same in a function of its own: compiled into a loop over runs, it would first
+// work out for them all what only long ones need.
+#[inline(never)]
+fn add_apart<F: Sums>(block: Block<F>, weight: usize, sum: &mut [F], column: &[F])
+    requires sums { length sum.old ≡ 2 * weight }
+    requires rows { length column.now ≡ 2 * weight }
+    ensures lower { (i : ℕ) → i < weight → at F.symbols F.value sum.new i ≡ F.symbols.ring.plus (at F.symbols F.value sum.old i) (blocked F.symbols.ring block.kind (F.value block.p) (F.value block.q) (at F.symbols F.value column.now i) (at F.symbols F.value column.now (i + weight)) false) }
+    ensures upper { (i : ℕ) → i < weight → at F.symbols F.value sum.new (i + weight) ≡ F.symbols.ring.plus (at F.symbols F.value sum.old (i + weight)) (blocked F.symbols.ring block.kind (F.value block.p) (F.value block.q) (at F.symbols F.value column.now i) (at F.symbols F.value column.now (i + weight)) true) }
+{
+    add_side_by_side(block, weight, sum, column);
+}
+
+// The same for a run of a column of so many rows.
+#[inline(always)]
+fn add_run<F: Sums>(rows: usize, block: Block<F>, weight: usize, sum: &mut [F], column: &[F])
+    requires sums { length sum.old ≡ 2 * weight }
+    requires rows { length column.now ≡ 2 * weight }
+    ensures lower { (i : ℕ) → i < weight → at F.symbols F.value sum.new i ≡ F.symbols.ring.plus (at F.symbols F.value sum.old i) (blocked F.symbols.ring block.kind (F.value block.p) (F.value block.q) (at F.symbols F.value column.now i) (at F.symbols F.value column.now (i + weight)) false) }
+    ensures upper { (i : ℕ) → i < weight → at F.symbols F.value sum.new (i + weight) ≡ F.symbols.ring.plus (at F.symbols F.value sum.old (i + weight)) (blocked F.symbols.ring block.kind (F.value block.p) (F.value block.q) (at F.symbols F.value column.now i) (at F.symbols F.value column.now (i + weight)) true) }
+{
+    if rows < LONG {
+        add_apart(block, weight, sum, column);
+    } else {
+        add_side_by_side(block, weight, sum, column);
     }
 }
 
@@ -58,9 +89,11 @@ pub(crate) fn add_pairs<F: Sums>(cabinet: &Cabinet<F>, b: usize, sum: &mut [F], 
     let block = cabinet.block(b);
     let weight = cabinet.size.digit(b).weight();
     let run = 2 * weight;
-    for r in 0..cabinet.size.rows() / run {
+    let rows = cabinet.size.rows();
+    for r in 0..rows / run {
         let start = r * run;
         add_run(
+            rows,
             block,
             weight,
             &mut sum[start..start + run],
@@ -77,10 +110,12 @@ fn take_half<F: Sums>(size: &Size, x: usize, column: &[F], half: &mut [F])
 {
     let kind = kind_at(size.m, x);
     let digit = size.digit(x);
-    // By the pairs' numbers: after a `zip` with `iter_mut` nothing would be known of what was written.
+    let weight = digit.weight();
+    // By the pairs' numbers: after a `zip` with `iter_mut` nothing would be known of what was
+    // written. Their rows are those of `Digit::pair`, which would be tested again for each.
     for (j, number) in half.iter_mut().enumerate() {
-        let (low, high) = digit.pair(j).unwrap();
-        *number = kind.half(column[low], column[high]);
+        let low = j + (j - j % weight);
+        *number = kind.half(column[low], column[low + weight]);
     }
 }
 

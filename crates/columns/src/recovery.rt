@@ -1,7 +1,8 @@
 // A lost column from the halves of all other boxes.
 ghost use Rattle.std.specs.Prelude.{◌≡◌, ℕ, suc, ◌+◌, ◌-◌, ◌*◌, ◌^◌, ◌<◌, ◌≤◌, true, false, [], ◌∷◌, length, if◌then◌else◌, MatchResult, ◌≢◌};
+ghost use Rattle.boxes.specs.Boxes.{BlockOf};
 ghost use Rattle.code.specs.Blocks.{◌∸◌, block as blocked};
-ghost use Rattle.code.specs.Codes.{full, Given, image, shift};
+ghost use Rattle.code.specs.Codes.{full, Given, image, kind as kinded, shift};
 ghost use Rattle.code.specs.Contents.{Holds, at, parts};
 ghost use Rattle.code.specs.Recovery.{half_image, recover as recovered_pair, recovered, seat as seated, taken, taken_image};
 ghost use Rattle.code.specs.Rows.{digit, lower, odd, pair_of, partner};
@@ -9,7 +10,7 @@ ghost use Rattle.columns.specs.Sides.{less, sides};
 ghost use Rattle.refusal.specs.Refusals.{earliest as first, few_marks, no_box, parity_box, refusal, wrong_lengths, wrong_size};
 
 use boxes::{Cabinet, Digit, kind_at};
-use code::Block;
+use code::{Block, Kind};
 use field::{Quotients, Sums};
 use refusal::{Refusal, fitting, holding_data, numbered};
 
@@ -52,6 +53,7 @@ fn subtract_pair<F: Sums>(column: &mut [F], low: usize, high: usize, numbers: (F
 
 // Takes off what a box of the lost box's direction sent: its half off the lower
 // rows, the half times an eigenvalue off the upper ones.
+#[inline(always)]
 fn subtract_multiple<F: Sums>(along: &Digit, eigenvalue: F, half: &[F], column: &mut [F])
     requires pairs { length half.now ≡ 2 ^ (along.now.digits - 1) }
     requires rows { length column.old ≡ 2 ^ along.now.digits }
@@ -87,15 +89,23 @@ fn seat(lost: usize, b: usize) -> usize
 #[derive(Drop)]
 struct Halves<'a, F: Sums> {
     cabinet: Cabinet<F>,
-    // The place of the lost box, from 0.
+    // The place of the lost box, from 0, its kind and the digit of its direction:
+    // worked out once, since every box that is taken off asks for them.
     lost: usize,
+    kind: Kind,
+    along: Digit,
     numbers: &'a [F],
     ghost data: { lost < 3 * cabinet.size.m },
     ghost whole: { length numbers.now ≡ (3 * cabinet.size.m + 1) * 2 ^ (cabinet.size.m - 1) },
+    ghost is_kind: { kind ≡ kinded (full F.symbols cabinet.size.m) lost },
+    ghost digits: { along.digits ≡ cabinet.size.m },
+    ghost place: { along.place ≡ shift (full F.symbols cabinet.size.m) lost },
 }
 
 // Numbers of pairs and the lengths of halves and columns are asked for: a type for
 // one would hold that bound alone (see column.rt).
+// Inlined into one function, in which what is known of the lost box stays at hand:
+// behind a reference it would be read and worked out again after each symbol written.
 impl<'a, F: Sums> Halves<'a, F> {
     // Those sent for the lost box, from 1 to 3m.
     fn new(cabinet: Cabinet<F>, lost: usize, numbers: &'a [F]) -> Self
@@ -106,14 +116,18 @@ impl<'a, F: Sums> Halves<'a, F> {
         ensures place { result.lost ≡ lost - 1 }
         ensures numbers { result.numbers.now ≡ numbers.now }
     {
+        let lost = lost - 1;
         Halves {
-            lost: lost - 1,
+            lost,
+            kind: kind_at(cabinet.size.m, lost),
+            along: cabinet.size.digit(lost),
             cabinet,
             numbers,
         }
     }
 
     // The half that the helper in place b sent.
+    #[inline(always)]
     fn half(&self, b: usize) -> &'a [F]
         requires helper { b < 3 * self.now.cabinet.size.m + 2 }
         requires other { b ≢ self.now.lost }
@@ -132,34 +146,39 @@ impl<'a, F: Sums> Halves<'a, F> {
         requires across { shift (full F.symbols self.now.cabinet.size.m) self.now.lost ≢ shift (full F.symbols self.now.cabinet.size.m) b }
         ensures { Holds F.symbols F.value (2 ^ self.now.cabinet.size.m) column.new (less F.symbols (at F.symbols F.value column.old) (sides (shift (full F.symbols self.now.cabinet.size.m) self.now.lost) (at F.symbols F.value half.now) (λ j. image (full F.symbols self.now.cabinet.size.m) b (λ a. at F.symbols F.value half.now (pair_of (shift (full F.symbols self.now.cabinet.size.m) self.now.lost) a)) (lower (shift (full F.symbols self.now.cabinet.size.m) self.now.lost) j)))) }
     {
-        let along = self.cabinet.size.digit(self.lost);
         let across = self.cabinet.size.digit(b);
         let block = self.cabinet.block(b);
         for (low, high) in across.pairs() {
-            subtract_pair(column, low, high, share(&along, block, half, low, high));
+            subtract_pair(
+                column,
+                low,
+                high,
+                share(&self.along, block, half, low, high),
+            );
         }
     }
 
     // Takes off what the data box in place b sent: its half off the lower rows,
     // the half of its image off the upper ones.
+    #[inline(always)]
     fn subtract_box(&self, b: usize, column: &mut [F])
         requires rows { length column.old ≡ 2 ^ self.now.cabinet.size.m }
         requires helper { b < 3 * self.now.cabinet.size.m }
         requires other { b ≢ self.now.lost }
         ensures { Holds F.symbols F.value (2 ^ self.now.cabinet.size.m) column.new (less F.symbols (at F.symbols F.value column.old) (sides (shift (full F.symbols self.now.cabinet.size.m) self.now.lost) (parts F.symbols F.value (2 ^ (self.now.cabinet.size.m - 1)) self.now.numbers.now (seated self.now.lost b)) (half_image (full F.symbols self.now.cabinet.size.m) self.now.lost b (parts F.symbols F.value (2 ^ (self.now.cabinet.size.m - 1)) self.now.numbers.now (seated self.now.lost b))))) }
     {
-        let size = &self.cabinet.size;
         let half = self.half(b);
-        let along = size.digit(self.lost);
-        if size.digit(b).place == along.place {
-            let eigenvalue = self.cabinet.block(b).eigenvalue(kind_at(size.m, self.lost));
-            subtract_multiple(&along, eigenvalue, half, column);
+        let along = &self.along;
+        if self.cabinet.size.digit(b).place == along.place {
+            let eigenvalue = self.cabinet.block(b).eigenvalue(self.kind);
+            subtract_multiple(along, eigenvalue, half, column);
         } else {
             self.subtract_image(b, half, column);
         }
     }
 
     // Takes off what all data boxes but the lost one sent.
+    #[inline(always)]
     fn subtract_boxes(&self, column: &mut [F])
         requires { length column.old ≡ 2 ^ self.now.cabinet.size.m }
         ensures { Holds F.symbols F.value (2 ^ self.now.cabinet.size.m) column.new (less F.symbols (at F.symbols F.value column.old) (sides (shift (full F.symbols self.now.cabinet.size.m) self.now.lost) (taken (full F.symbols self.now.cabinet.size.m) self.now.lost (3 * self.now.cabinet.size.m) (parts F.symbols F.value (2 ^ (self.now.cabinet.size.m - 1)) self.now.numbers.now)) (taken_image (full F.symbols self.now.cabinet.size.m) self.now.lost (3 * self.now.cabinet.size.m) (parts F.symbols F.value (2 ^ (self.now.cabinet.size.m - 1)) self.now.numbers.now)))) }
@@ -174,6 +193,7 @@ impl<'a, F: Sums> Halves<'a, F> {
     }
 
     // Writes the halves of the two parities, which the last two helpers sent.
+    #[inline(always)]
     fn write_parities(&self, column: &mut [F])
         requires { length column.old ≡ 2 ^ self.now.cabinet.size.m }
         ensures { Holds F.symbols F.value (2 ^ self.now.cabinet.size.m) column.new (sides (shift (full F.symbols self.now.cabinet.size.m) self.now.lost) (parts F.symbols F.value (2 ^ (self.now.cabinet.size.m - 1)) self.now.numbers.now (seated self.now.lost (3 * self.now.cabinet.size.m))) (parts F.symbols F.value (2 ^ (self.now.cabinet.size.m - 1)) self.now.numbers.now (seated self.now.lost (suc (3 * self.now.cabinet.size.m))))) }
@@ -181,35 +201,37 @@ impl<'a, F: Sums> Halves<'a, F> {
         let boxes = self.cabinet.size.boxes();
         let first = self.half(boxes);
         let second = self.half(boxes + 1);
-        let digit = self.cabinet.size.digit(self.lost);
-        for (j, (low, high)) in digit.pairs().enumerate() {
+        for (j, (low, high)) in self.along.pairs().enumerate() {
             column[low] = first[j];
             column[high] = second[j];
         }
     }
 
-    // Writes the lost column; d is the inverse of the gap of the lost box's block.
-    fn write(&self, d: F, column: &mut [F])
-        requires { length column.old ≡ 2 ^ self.now.cabinet.size.m }
+    // Writes the lost column, by the lost box's block; d is the inverse of its gap.
+    #[inline(always)]
+    fn write(&self, block: Block<F>, d: F, column: &mut [F])
+        requires block { BlockOf (full F.symbols self.now.cabinet.size.m) self.now.lost block.kind (F.value block.p) (F.value block.q) }
+        requires rows { length column.old ≡ 2 ^ self.now.cabinet.size.m }
         ensures { Holds F.symbols F.value (2 ^ self.now.cabinet.size.m) column.new (λ a. recovered (full F.symbols self.now.cabinet.size.m) self.now.lost (F.value d) (parts F.symbols F.value (2 ^ (self.now.cabinet.size.m - 1)) self.now.numbers.now) (pair_of (shift (full F.symbols self.now.cabinet.size.m) self.now.lost) a) (odd (digit (shift (full F.symbols self.now.cabinet.size.m) self.now.lost) a))) }
     {
         self.write_parities(column);
         self.subtract_boxes(column);
-        let block = self.cabinet.block(self.lost);
-        recover_pairs(&self.cabinet.size.digit(self.lost), block, d, column);
+        recover_pairs(&self.along, block, d, column);
     }
 }
 
 // Writes the column given by the halves.
+#[inline(always)]
 fn write_column<F: Quotients>(halves: &Halves<'_, F>, column: &mut [F])
     requires { length column.old ≡ 2 ^ halves.now.cabinet.size.m }
     ensures { Given (full F.symbols halves.now.cabinet.size.m) halves.now.lost (parts F.symbols F.value (2 ^ (halves.now.cabinet.size.m - 1)) halves.now.numbers.now) (at F.symbols F.value column.new) }
 {
-    let Some(d) = halves.cabinet.block(halves.lost).gap().inverse() else {
+    let block = halves.cabinet.block(halves.lost);
+    let Some(d) = block.gap().inverse() else {
         // The marks are distinct, so the gap is not zero.
         unreachable!()
     };
-    halves.write(d, column);
+    halves.write(block, d, column);
 }
 
 // Writes the column given by the halves of all boxes but a lost data box,

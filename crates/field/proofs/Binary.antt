@@ -20,7 +20,7 @@ module _ (n : ℕ) (f : ℕ → ℕ → ℕ) (inverse : ℕ → ℕ) (t : Invert
   parts : IsTrue (nat_lt (inverse a) n) × IsTrue (a == 0 || f a (inverse a) == 1)
   parts = and_parts _ _ (all_at (inverted n f inverse) n t a low)
 
-  inverse_below : inverse a < n
+  pub inverse_below : inverse a < n
   inverse_below = ltb-true _ _ parts.0
 
   pub inverts : 0 < a → f a (inverse a) ≡ 1

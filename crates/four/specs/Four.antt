@@ -28,6 +28,10 @@ table = (0 ∷ 0 ∷ 0 ∷ 0 ∷ []) ∷ (0 ∷ 1 ∷ 2 ∷ 3 ∷ []) ∷ (0 ∷
 abbrev pub product : ℕ → ℕ → ℕ
 product a b = slice_index (slice_index_or table a []) b
 
+-- zero has no inverse, and its entry says nothing
+abbrev pub inverse : ℕ → ℕ
+inverse a = slice_index (0 ∷ 1 ∷ 3 ∷ 2 ∷ []) a
+
 -- a rule at every one, two or three symbols, by one computed test over the whole table
 rule_1 : (f : ℕ → Bool) → IsTrue (all f 4) → (x : Below 4) → IsTrue (f x.0)
 rule_1 f t x = all_at f 4 t x.0 x.1

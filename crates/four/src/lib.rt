@@ -15,8 +15,6 @@ pub enum Four {
     Three,
 }
 
-const SYMBOLS: [Four; 4] = [Zero, One, Two, Three];
-
 // A row for each symbol.
 const PRODUCTS: [[Four; 4]; 4] = [
     [Zero, Zero, Zero, Zero],
@@ -25,15 +23,21 @@ const PRODUCTS: [[Four; 4]; 4] = [
     [Zero, Three, One, Two],
 ];
 
-const INVERSES: [Option<Four>; 4] = [None, Some(One), Some(Three), Some(Two)];
+static INVERSES: [Option<Four>; 4] = [None, Some(One), Some(Three), Some(Two)];
 
 const MARK_LIST: [Four; 3] = [Three, Two, One];
 
-// Two digits to a number, and each digit is added on its own.
+// Two digits to a number, and each digit is added on its own. By a match, which
+// is compiled to no more than the number: a table would be read symbol by symbol.
 fn add(a: Four, b: Four) -> Four
     ensures { four_number result ≡ bit_xor (four_number a) (four_number b) }
 {
-    SYMBOLS[a as usize ^ b as usize]
+    match a as u8 ^ b as u8 {
+        0 => Zero,
+        1 => One,
+        2 => Two,
+        _ => Three,
+    }
 }
 
 fn multiply(a: Four, b: Four) -> Four
@@ -89,7 +93,13 @@ impl Sums for Four {
     }
 
     fn symbol(n: u32) -> Option<Four> {
-        SYMBOLS.get(n as usize).copied()
+        match n {
+            0 => Some(Zero),
+            1 => Some(One),
+            2 => Some(Two),
+            3 => Some(Three),
+            _ => None,
+        }
     }
 
     fn mark(j: u32) -> Option<Four> {

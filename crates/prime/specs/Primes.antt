@@ -9,7 +9,7 @@ use Rattle.field.specs.Residues.{Prime}
 abbrev leaves : ℕ → ℕ → Bool
 leaves p d = nat_lt d 2 || nat_lt 0 (p % d)
 
-prime_by : (p : ℕ) → IsTrue (all (leaves p) p) → Prime p
+pub prime_by : (p : ℕ) → IsTrue (all (leaves p) p) → Prime p
 prime_by p t d h k e =
     elim (or_cases (nat_lt d 2) (nat_lt 0 (p % d)) (all_at (leaves p) p t d k)) [
       | inl s ↦ let l : d < 2 = ltb-true _ _ s in omega arith

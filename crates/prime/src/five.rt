@@ -15,8 +15,6 @@ pub enum Five {
     Four,
 }
 
-const SYMBOLS: [Five; 5] = [Five::Zero, Five::One, Five::Two, Five::Three, Five::Four];
-
 const MARK_LIST: [Five; 4] = [Five::One, Five::Four, Five::Two, Five::Three];
 
 impl Residue for Five {
@@ -47,7 +45,14 @@ impl Residue for Five {
     fn few_bytes() {}
 
     fn from_number(n: u32) -> Five {
-        SYMBOLS[n as usize]
+        // A table would be read symbol by symbol; a match is compiled to the number.
+        match n {
+            0 => Five::Zero,
+            1 => Five::One,
+            2 => Five::Two,
+            3 => Five::Three,
+            _ => Five::Four,
+        }
     }
 
     fn to_number(self) -> u32 {

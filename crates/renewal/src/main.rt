@@ -12,7 +12,6 @@ use columns::{half, parities};
 use decoding::decode;
 use field::Sums;
 use gathering::{Message, gather};
-use std::alloc::Global;
 use std::fmt;
 
 // The size m: columns of 2^m symbols, 3m data boxes.
@@ -105,11 +104,8 @@ impl Cabinet {
         Ok(Sent { helper, symbols })
     }
 
-    fn halves(&self, alloc: Global, lost: usize, helpers: &[usize]) -> anyhow::Result<Halves> {
-        let mut sent = Vec::new(alloc);
-        for helper in helpers {
-            sent.push(self.half(lost, *helper)?)?;
-        }
+    fn halves(&self, lost: usize, helpers: [usize; HELPERS]) -> anyhow::Result<Halves> {
+        let sent = helpers.try_map(|helper| self.half(lost, helper))?;
         Ok(Halves { lost, sent })
     }
 
@@ -163,19 +159,16 @@ struct Sent {
 #[derive(Drop)]
 struct Halves {
     lost: usize,
-    sent: Vec<Sent>,
+    sent: [Sent; HELPERS],
 }
 
 impl Halves {
     // The lost column.
-    fn renew(&self, alloc: Global) -> anyhow::Result<[Byte; ROWS]> {
-        let mut messages = Vec::new(alloc);
-        for sent in &self.sent {
-            messages.push(Message {
-                helper: sent.helper,
-                half: &sent.symbols,
-            })?;
-        }
+    fn renew(&self) -> anyhow::Result<[Byte; ROWS]> {
+        let messages = self.sent.each_ref().map(|sent| Message {
+            helper: sent.helper,
+            half: &sent.symbols,
+        });
         let mut store = [Byte(0); HELPERS * PAIRS];
         let mut column = [Byte(0); ROWS];
         gather(SIZE, self.lost, &messages, &mut store, &mut column)?;
@@ -202,10 +195,10 @@ impl fmt::Display for Halves {
 }
 
 // One box is lost, and renewed from halves.
-fn renew(rt: &(impl Print + AllocGlobal), cabinet: &Cabinet) -> anyhow::Result<()> {
-    let halves = cabinet.halves(rt.alloc(), LOST, &ARRIVING)?;
+fn renew(rt: &impl Print, cabinet: &Cabinet) -> anyhow::Result<()> {
+    let halves = cabinet.halves(LOST, ARRIVING)?;
     print!(rt; "{halves}")?;
-    let renewed = halves.renew(rt.alloc())?;
+    let renewed = halves.renew()?;
     rt.println("Renewed from them:")?;
     rt.println(Line {
         number: LOST,
@@ -247,7 +240,7 @@ fn decode_two(rt: &impl Print, cabinet: &Cabinet) -> anyhow::Result<()> {
     Ok(())
 }
 
-fn run(rt: &(impl Print + AllocGlobal)) -> anyhow::Result<()> {
+fn run(rt: &impl Print) -> anyhow::Result<()> {
     let cabinet = Cabinet::new(LEVELS)?;
     print!(rt; "{cabinet}")?;
     renew(rt, &cabinet)?;

@@ -8,7 +8,7 @@ use Rattle.columns.proofs.column.add_pairs.Goals as goal
 
 pub offset_bounds-sum-start : goal.offset_bounds-sum-start
 offset_bounds-sum-start g c =
-    let inside = run_inside c.loop-r.r c.rows.result (2 * c.weight-weight.result) c.loop-r-test.true in
+    let inside = run_inside c.loop-r.r c.rows-rows.result (2 * c.weight-weight.result) c.loop-r-test.true in
     search rules
 
 pub loop-r-preserved : goal.loop-r-preserved
@@ -27,7 +27,7 @@ loop-r-preserved g c =
     let column = c.args.column.now in
     let block = c.block-block.ensures in
     let is : w ≡ 2 ^ shift code b = c.weight-weight.ensures.value ∙ ap (λ n. 2 ^ n) c.digit.ensures.place in
-    let inside = run_inside r c.rows.result (2 * w) c.loop-r-test.true in
+    let inside = run_inside r c.rows-rows.result (2 * w) c.loop-r-test.true in
     let before : (i : ℕ) → start ≤ i → at Y v sum i ≡ at Y v old i = λ i h. c.loop-r.invariant.left i h in
     run_more Y v w start run size sum c.add_run.new.sum (omega (arith, inside)) (omega (arith, inside))
     (added Y (at Y v old) (image code b (at Y v column)))
@@ -48,5 +48,5 @@ returns g c =
     let size = c.args.cabinet.now.size in
     let code = full g.F.Sums.symbols size.m in
     let b = c.args.b in
-    let all = runs_all size.m (shift code b) c.weight-weight.result c.rows.result c.loop-r.r (shift_below code b size.some) (c.weight-weight.ensures.value ∙ ap (λ n. 2 ^ n) c.digit.ensures.place) c.rows.ensures.value c.loop-r-test.false in
+    let all = runs_all size.m (shift code b) c.weight-weight.result c.rows-rows.result c.loop-r.r (shift_below code b size.some) (c.weight-weight.ensures.value ∙ ap (λ n. 2 ^ n) c.digit.ensures.place) c.rows-rows.ensures.value c.loop-r-test.false in
     λ a l. c.loop-r.invariant.done a (omega (arith, all)) (omega arith)

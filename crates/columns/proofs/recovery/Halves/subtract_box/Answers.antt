@@ -26,12 +26,12 @@ returns-then-digit-along g c =
     let numbers = c.half-half.ensures.numbers in
     let made = c.block.ensures in
     let e = v c.eigenvalue-eigenvalue.result in
-    let is_e = c.eigenvalue-eigenvalue.ensures ∙ (λ i. eigenvalue R (c.kind_at.ensures i) (made.is_kind i) (made.first i) (made.second i)) in
-    let same : shift code b ≡ shift code x = sym c.digit.ensures.place ∙ c.if-digit-along.true ∙ c.digit-along.ensures.place in
+    let is_e = c.eigenvalue-eigenvalue.ensures ∙ (λ i. eigenvalue R (c.args.self.now.is_kind i) (made.is_kind i) (made.first i) (made.second i)) in
+    let same : shift code b ≡ shift code x = sym c.digit.ensures.place ∙ c.if-digit-along.true ∙ c.args.self.now.place in
     λ a l.
-    c.subtract_multiple.ensures a (subst (λ n. a < 2 ^ n) (sym c.digit-along.ensures.digits) l)
+    c.subtract_multiple.ensures a (subst (λ n. a < 2 ^ n) (sym c.args.self.now.digits) l)
     ∙ ap (◌∸◌ R (at Y v c.args.column.now a))
-    ((λ i. sides (c.digit-along.ensures.place i) half (λ j. R.times e (half j)) a)
+    ((λ i. sides (c.args.self.now.place i) half (λ j. R.times e (half j)) a)
     ∙ sides_same k half (λ j. R.times e (half j)) m sent (half_image code x b sent) (shift_below code x size.some) numbers
     (λ j h. (λ i. R.times (is_e i) (numbers j h i)) ∙ sym (if_same (shift code b) (shift code x) same _ _)) a l)
 
@@ -48,7 +48,7 @@ returns-else-digit-along g c =
     let half = at Y v c.half-half.result.now in
     let sent = parts Y v (2 ^ (m - 1)) c.args.self.now.numbers.now (seat x b) in
     let numbers = c.half-half.ensures.numbers in
-    let apart : shift code b ≢ shift code x = λ e. c.if-digit-along.false (c.digit.ensures.place ∙ e ∙ sym c.digit-along.ensures.place) in
+    let apart : shift code b ≢ shift code x = λ e. c.if-digit-along.false (c.digit.ensures.place ∙ e ∙ sym c.args.self.now.place) in
     λ a l.
     c.subtract_image.ensures a l
     ∙ ap (◌∸◌ Y.ring (at Y v c.args.column.now a))

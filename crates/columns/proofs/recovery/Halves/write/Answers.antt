@@ -24,8 +24,8 @@ returns g c =
     let second = halves (seat x (suc (3 * m))) in
     let off = taken code x (3 * m) halves in
     let off_image = taken_image code x (3 * m) halves in
-    let place = c.digit.ensures.place in
-    let block = c.block-block.ensures in
+    let place = c.args.self.now.place in
+    let block = c.requires.block in
     let sums = at Y v c.subtract_boxes.new.column in
     λ a l.
     let left = λ (d : Bool). partner_lt m k d a (shift_below code x size.some) l in
@@ -35,5 +35,5 @@ returns g c =
     let upper : sums (partner k true a) ≡ lost_image code x halves (pair_of k a) =
     c.subtract_boxes.ensures (partner k true a) (left true)
     ∙ ap₂ (◌∸◌ R) (c.write_parities.ensures (partner k true a) (left true) ∙ sides_partner k first second true a) (sides_partner k off off_image true a) in
-    c.recover_pairs.ensures a (subst (λ n. a < 2 ^ n) (sym c.digit.ensures.digits) l)
+    c.recover_pairs.ensures a (subst (λ n. a < 2 ^ n) (sym c.args.self.now.digits) l)
     ∙ (λ i. recover R (block.is_kind i) (block.first i) (block.second i) (v c.args.d) ((ap (λ n. sums (partner n false a)) place ∙ lower) i) ((ap (λ n. sums (partner n true a)) place ∙ upper) i) (odd (digit (place i) a)))

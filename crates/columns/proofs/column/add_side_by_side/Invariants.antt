@@ -2,7 +2,7 @@ use Rattle.std.proofs.Common.{ℕ, ◌+◌, Bool, true, false}
 use Rattle.code.specs.Blocks.{block as blocked}
 use Rattle.code.specs.Contents.{at}
 use Rattle.columns.proofs.Runs.{Halves}
-use Rattle.columns.proofs.column.add_run.Given as goal
+use Rattle.columns.proofs.column.add_side_by_side.Given as goal
 
 abbrev pub invariant-loop-i : goal.invariant-loop-i
 invariant-loop-i g l =

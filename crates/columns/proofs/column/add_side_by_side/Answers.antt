@@ -2,7 +2,7 @@ use Rattle.std.proofs.Common.{◌≡◌, ◌+◌, ◌*◌, ◌<◌, true, false,
 use Rattle.code.specs.Blocks.{block as blocked}
 use Rattle.columns.proofs.Runs.{halves_more}
 use Rattle.columns.proofs.Slices.{read, written_else}
-use Rattle.columns.proofs.column.add_run.Goals as goal
+use Rattle.columns.proofs.column.add_side_by_side.Goals as goal
 
 pub loop-i-preserved : goal.loop-i-preserved
 loop-i-preserved g c =
