@@ -33,7 +33,9 @@ impl<F: Sums> Cabinet<F> {
         })
     }
 
-    // The block of the data box in place b, from 0.
+    // The block of the data box in place b, from 0. Inlined with `block_at`, since
+    // a caller that asks for the digit too then divides once for both.
+    #[inline(always)]
     pub fn block(&self, b: usize) -> Block<F>
         ensures { BlockOf (full F.symbols self.now.size.m) b result.kind (F.value result.p) (F.value result.q) }
     {

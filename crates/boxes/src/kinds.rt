@@ -38,6 +38,7 @@ pub fn shift_at(m: usize, b: usize) -> usize
 
 // The block of the data box in place b. Absent where the field lacks the marks
 // of its direction.
+#[inline(always)]
 pub(crate) fn block_at<F: Sums>(size: &Size, b: usize) -> Option<Block<F>>
     ensures marks { OnSome result (2 * direction (full F.symbols size.now.m) b ≤ F.symbols.marks) }
     ensures block { MatchOption result (F.symbols.marks < 2 * direction (full F.symbols size.now.m) b) (λ block. BlockOf (full F.symbols size.now.m) b block.kind (F.value block.p) (F.value block.q)) }

@@ -50,6 +50,7 @@ impl<F: Sums> Block<F> {
     }
 
     // The difference of the two eigenvalues, q - p.
+    #[inline(always)]
     pub fn gap(self) -> F
         ensures { F.value result ≡ ◌∸◌ F.symbols.ring (F.value self.q) (F.value self.p) }
     {

@@ -66,6 +66,7 @@ fn subtract_multiple<F: Sums>(along: &Digit, eigenvalue: F, half: &[F], column: 
 
 // Recovers each pair along the digit from what stands in its two rows: its half
 // and the half of its block. d is the inverse of the block's gap.
+#[inline(always)]
 fn recover_pairs<F: Sums>(along: &Digit, block: Block<F>, d: F, column: &mut [F])
     requires { length column.old ≡ 2 ^ along.now.digits }
     ensures { Holds F.symbols F.value (2 ^ along.now.digits) column.new (λ a. recovered_pair F.symbols.ring block.kind (F.value block.p) (F.value block.q) (F.value d) (at F.symbols F.value column.old (partner along.now.place false a)) (at F.symbols F.value column.old (partner along.now.place true a)) (odd (digit along.now.place a))) }

@@ -121,6 +121,7 @@ impl<R: Residue> Sums for R {
 impl<R: Residue> Quotients for R {
     fn divides() {}
 
+    #[inline(always)]
     fn inverse(self) -> Option<R> {
         let n = self.to_number();
         if n == 0 {
